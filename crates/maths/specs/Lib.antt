@@ -1,0 +1,4 @@
+pub mod Tests
+pub mod Sums
+pub mod Repeat
+pub mod Tables

@@ -1,0 +1,124 @@
+-- What each public call answers, and what it leaves in every lent list, for all inputs.
+use mathlib.Core.Bool.{Bool, cond, _&&_}
+use mathlib.Core.List.{List, _++_}
+use Prim.Native.Nat.{ℕ}
+use lib.Dec.{eqb, leb}
+use lib.IntN.{ℤ, pos}
+use lib.ListN.{length, getD, drop}
+use Rattle.maths.specs.Tables.{table}
+use Rattle.rules.specs.declared.answers.MeshRead.{MeshRead}
+use Rattle.rules.specs.declared.answers.MeshWritten.{MeshWritten}
+use Rattle.rules.specs.declared.answers.EulerNumber.{EulerNumber}
+use Rattle.rules.specs.declared.answers.Applied.{Applied}
+use Rattle.rules.specs.declared.answers.ScriptRun.{ScriptRun}
+use Rattle.rules.specs.Refusals.{accepted, wrongLength, notGood, wrongForm, shortOutput, wrongChain}
+use Rattle.rules.specs.Complex.{Pattern, Complex, Chain, empty, complex, countsOf, stored, euler}
+use Rattle.rules.specs.Good.{isGood}
+use Rattle.rules.specs.Edits.{boundary}
+use Rattle.rules.specs.Operators.{step, afterStep}
+use Rattle.rules.specs.Form.{loneOperator, afterOperator, facesOf, faultNumber, within}
+use Rattle.rules.specs.Mesh.{readMesh, afterReading, writeMesh}
+use Rattle.rules.specs.Script.{runScript}
+use Rattle.rules.specs.Chains.{isChain, boundaryLimit, carryLimit, carryStep, afterCarry}
+
+-- an answer, and the three matrices at exit
+pub record Lent (A : Type 0) : Type 0 where
+  pub answer : A
+  pub m1 : List ℤ
+  pub m2 : List ℤ
+  pub m3 : List ℤ
+
+abbrev pub lent : {A : Type 0} → A → Pattern → Lent A
+lent a p = record { answer = a; m1 = p .m1; m2 = p .m2; m3 = p .m3 }
+
+-- "a buffer of exactly 9,216 signed bytes"; a chain of 96; a script of at most 24,576 bytes
+abbrev pub sized : Pattern → Bool
+sized p = eqb (length (p .m1)) 9216 && eqb (length (p .m2)) 9216 && eqb (length (p .m3)) 9216
+
+abbrev pub sizedChain : List ℤ → Bool
+sizedChain c = eqb (length c) 96
+
+abbrev pub sizedScript : List ℕ → Bool
+sizedScript s = leb (length s) 24576
+
+-- "Order for calls on a pattern: 1, 2," and then the rest, `go`
+abbrev pub onGood : {A : Type 0} → Bool → Complex → (ℕ → A) → (Complex → A) → A
+onGood long X refuse go = cond long (cond (isGood X) (go X) (refuse notGood)) (refuse wrongLength)
+
+-- Reading: "Every refusal answers counts 0 and 0 bytes used. After refusal 1 the matrices are unchanged; after another all three are zero."
+abbrev pub noMesh : ℕ → MeshRead
+noMesh r = record { counts = countsOf empty; used = 0; refusal = r }
+
+unfoldable pub readCall : List ℕ → Pattern → Lent MeshRead
+readCall s p =
+    cond (sized p)
+    (afterReading (readMesh s) (λ r. lent (noMesh r) (stored empty)) λ X used.
+    lent (record { counts = countsOf X; used = used; refusal = accepted }) (stored X))
+    (lent (noMesh wrongLength) p)
+
+-- Writing: "touches the first bytes it reports and no other; a refused writer reports 0 and touches nothing"
+pub record Wrote : Type 0 where
+  pub answer : MeshWritten
+  pub out : List ℕ
+
+unfoldable pub writeCall : Pattern → List ℕ → Wrote
+writeCall p out =
+    let refuse : ℕ → Wrote = λ r. record { answer = record { written = 0; refusal = r }; out = out } in
+    onGood (sized p) (complex p) refuse λ X.
+    let mesh = writeMesh X in
+    cond (leb (length mesh) (length out))
+    (record { answer = record { written = length mesh; refusal = accepted }; out = mesh ++ drop (length mesh) out })
+    (refuse shortOutput)
+
+-- "A refused Euler call answers 0."
+unfoldable pub eulerCall : Pattern → EulerNumber
+eulerCall p =
+    onGood (sized p) (complex p) (λ r. record { number = pos 0; refusal = r }) λ X.
+    record { number = euler X; refusal = accepted }
+
+-- "A single operator call takes the bytes of one operator, without base, count or refusal 13."
+unfoldable pub applyCall : Pattern → List ℕ → Lent Applied
+applyCall p s =
+    let refuse : ℕ → Lent Applied = λ r. lent (record { counts = p .counts; refusal = r }) p in
+    onGood (sized p) (complex p) refuse λ X.
+    afterOperator (loneOperator s) (λ f. refuse (faultNumber f)) λ o next.
+    afterStep (step o (facesOf s o) X) refuse λ Y.
+    lent (record { counts = countsOf Y; refusal = accepted }) (stored Y)
+
+-- "An operator or script refused by 1 or 2 hands back the counts it was lent, changes no byte and accepts nothing."
+unfoldable pub runCall : Pattern → List ℕ → Lent ScriptRun
+runCall p s =
+    onGood (sized p && sizedScript s) (complex p) (λ r. lent (record { counts = p .counts; ran = 0; refusal = r }) p) λ X.
+    let e = runScript s X in
+    lent (record { counts = countsOf (e .now); ran = e .ran; refusal = e .refusal }) (stored (e .now))
+
+-- "A refused chain call leaves its output unchanged; an accepted one sets all 96."
+pub record Given : Type 0 where
+  pub refusal : ℕ
+  pub out : List ℤ
+
+abbrev pub chainOf : List ℤ → Chain
+chainOf c i = getD c i (pos 0)
+
+-- the chain c of n cells: 16, or what f makes of it
+abbrev pub onChain : ℕ → ℕ → List ℤ → (ℕ → Given) → (Chain → Chain) → Given
+onChain limit n c refuse f =
+    cond (isChain limit n (chainOf c)) (record { refusal = accepted; out = table 96 (f (chainOf c)) }) (refuse wrongChain)
+
+-- "Boundary (d = 1 to 3) is the matrix product"
+unfoldable pub boundaryCall : Pattern → ℕ → List ℤ → List ℤ → Given
+boundaryCall p d c out =
+    let refuse : ℕ → Given = λ r. record { refusal = r; out = out } in
+    onGood (sized p && sizedChain c && sizedChain out) (complex p) refuse λ X.
+    cond (within 1 3 d) (onChain boundaryLimit (X d .n) c refuse (boundary (X d))) (refuse wrongForm)
+
+-- "Carrying (d = 0 to 3) takes a pattern, one operator and a chain, leaves the pattern as it is, and writes the carried chain"
+unfoldable pub carryCall : Pattern → List ℕ → ℕ → List ℤ → List ℤ → Given
+carryCall p s d c out =
+    let refuse : ℕ → Given = λ r. record { refusal = r; out = out } in
+    onGood (sized p && sizedChain c && sizedChain out) (complex p) refuse λ X.
+    cond (within 0 3 d)
+    (afterOperator (loneOperator s) (λ f. refuse (faultNumber f)) λ o next.
+    afterCarry (carryStep o (facesOf s o) X) refuse λ S.
+    onChain carryLimit (X d .n) c refuse (S d .carried))
+    (refuse wrongForm)

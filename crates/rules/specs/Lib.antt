@@ -1,0 +1,13 @@
+pub mod Refusals
+pub mod Counts
+pub mod Complex
+pub mod Good
+pub mod Edits
+pub mod Operators
+pub mod Form
+pub mod Mesh
+pub mod Script
+pub mod Chains
+pub mod Calls
+pub mod Printed
+pub mod Cases

@@ -1,0 +1,47 @@
+-- Running a script: "operators run in order up to the first refusal; earlier ones remain".
+use mathlib.Core.Bool.{Bool, cond, _&&_}
+use mathlib.Core.List.{List}
+use Prim.Native.Nat.{ℕ, zero, suc, _+_}
+use lib.Dec.{eqb}
+use lib.ListN.{getD}
+use Rattle.maths.specs.Tests.{all}
+use Rattle.maths.specs.Repeat.{repeat}
+use Rattle.rules.specs.Refusals.{accepted, stale}
+use Rattle.rules.specs.Complex.{Complex}
+use Rattle.rules.specs.Operators.{step, afterStep}
+use Rattle.rules.specs.Form.{operatorAt, afterOperator, facesOf, faultNumber, scriptForm, after}
+
+-- "the answer has the number accepted, printed as run, and the refusal"
+pub record Ended : Type 0 where
+  pub now : Complex
+  pub ran : ℕ
+  pub refusal : ℕ
+
+abbrev pub ended : Complex → ℕ → ℕ → Ended
+ended X ran r = record { now = X; ran = ran; refusal = r }
+
+-- where a run stands: the pattern, how many operators were accepted, and the next place
+pub record Here : Type 0 where
+  pub now : Complex
+  pub ran : ℕ
+  pub at : ℕ
+
+unfoldable pub runOne : List ℕ → Here → (Here → Ended) → Ended
+runOne s h go =
+    afterOperator (operatorAt s (h .at)) (λ f. ended (h .now) (h .ran) (faultNumber f)) λ o next.
+    afterStep (step o (facesOf s o) (h .now)) (λ r. ended (h .now) (h .ran) r) λ X.
+    go (record { now = X; ran = h .ran + 1; at = next })
+
+-- n operators
+unfoldable pub runFrom : List ℕ → ℕ → Here → Ended
+runFrom s n h = repeat (runOne s) (λ h. ended (h .now) (h .ran) accepted) n h
+
+-- the base counts are the pattern's
+unfoldable pub sameBase : List ℕ → Complex → Bool
+sameBase s X = all 4 (λ k. eqb (getD s (k + 1) 0) (X k .n))
+
+-- "A script whose form is faulty, or that is stale, runs nothing."
+unfoldable pub runScript : List ℕ → Complex → Ended
+runScript s X =
+    after (scriptForm s) (λ f. ended X 0 (faultNumber f)) λ n.
+    cond (sameBase s X) (runFrom s n (record { now = X; ran = 0; at = 7 })) (ended X 0 stale)

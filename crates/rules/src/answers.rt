@@ -1,0 +1,34 @@
+// What the public calls answer beside what they leave in the lent lists. A refusal is a number of specs/Refusals.antt.
+use crate::counts::Counts;
+
+// Reading a mesh: the counts, and how many bytes it took.
+pub struct MeshRead {
+    pub counts: Counts,
+    pub used: usize,
+    pub refusal: u8,
+}
+
+// Writing a mesh: how many bytes were written.
+pub struct MeshWritten {
+    pub written: usize,
+    pub refusal: u8,
+}
+
+// The Euler number.
+pub struct EulerNumber {
+    pub number: i16,
+    pub refusal: u8,
+}
+
+// One operator: the counts after it.
+pub struct Applied {
+    pub counts: Counts,
+    pub refusal: u8,
+}
+
+// A script: the counts after it, and how many operators were accepted.
+pub struct ScriptRun {
+    pub counts: Counts,
+    pub ran: u16,
+    pub refusal: u8,
+}
