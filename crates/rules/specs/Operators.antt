@@ -89,10 +89,11 @@ isPart p v = not (all 96 (λ i. not (p i))) && not (all 96 (λ i. p i || isZero 
 unfoldable pub proper : Chain → Bool
 proper v = all 96 (λ i. isUnit (v i)) && not (allZero v)
 
--- "A new seam must have one -1 and one +1; a new panel must have entries within -1 to 1, not all 0 (else 10)." A new corner has no boundary.
+-- "A new seam must have one -1 and one +1; a new panel must have entries within -1 to 1, not all 0 (else 10)." A seam's other entries are 0; a new
+-- corner has no boundary.
 unfoldable pub divides : ℕ → Chain → Bool
 divides zero v = true
-divides (suc zero) v = oneEach v
+divides (suc zero) v = proper v && oneEach v
 divides (suc (suc m)) v = proper v
 
 unfoldable pub splitStep : ℕ → ℕ → Faces → Complex → Outcome

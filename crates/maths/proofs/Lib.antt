@@ -1,0 +1,9 @@
+pub mod Integers
+pub mod Cases
+pub mod Tests
+pub mod Sums
+pub mod Dots
+pub mod Repeat
+pub mod Tables
+pub mod Sweep
+pub mod Sizes
