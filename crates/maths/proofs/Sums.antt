@@ -146,3 +146,9 @@ module _ {A : Type 0} where
   unfolding join
   length-join zero k f h = omega arith
   length-join (suc n) k f h = simp (length-append, length-join n k f (λ i l. h i (omega arith)), h n (omega arith), suc-mul)
+
+  -- each part is at most k long
+  pub join-most : (n k : ℕ) (f : ℕ → List A) → ((i : ℕ) → i < n → length (f i) ≤ k) → length (join n f) ≤ n * k
+  unfolding join
+  join-most zero k f h = omega arith
+  join-most (suc n) k f h = simp (length-append, suc-mul) (omega (arith, join-most n k f (λ i l. h i (omega arith)), h n (omega arith)))

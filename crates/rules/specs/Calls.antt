@@ -97,13 +97,13 @@ pub record Given : Type 0 where
   pub refusal : ℕ
   pub out : List ℤ
 
-abbrev pub chainOf : List ℤ → Chain
-chainOf c i = getD c i (pos 0)
+abbrev pub coefficients : List ℤ → Chain
+coefficients c i = getD c i (pos 0)
 
 -- the chain c of n cells: 16, or what f makes of it
 abbrev pub onChain : ℕ → ℕ → List ℤ → (ℕ → Given) → (Chain → Chain) → Given
 onChain limit n c refuse f =
-    cond (isChain limit n (chainOf c)) (record { refusal = accepted; out = table 96 (f (chainOf c)) }) (refuse wrongChain)
+    cond (isChain limit n (coefficients c)) (record { refusal = accepted; out = table 96 (f (coefficients c)) }) (refuse wrongChain)
 
 -- "Boundary (d = 1 to 3) is the matrix product"
 unfoldable pub boundaryCall : Pattern → ℕ → List ℤ → List ℤ → Given

@@ -4,7 +4,6 @@ use Prim.Native.Nat.{ℕ, suc, pred}
 use lib.Dec.{eqb}
 use lib.IntN.{ℤ, pos, negsuc, negℤ, _+ℤ_}
 use Rattle.maths.specs.Sums.{dot, up}
-use Rattle.maths.specs.Tables.{Entries}
 use Rattle.rules.specs.Complex.{Layer, Complex, Chain}
 
 -- what becomes of one dimension: its layer, and a chain of it

@@ -4,12 +4,11 @@ use mathlib.Core.List.{List, [], _∷_, _++_}
 use Prim.Native.Nat.{ℕ, zero, suc, _+_}
 use lib.Dec.{eqb}
 use lib.IntN.{ℤ, pos, negsuc}
-use lib.ListN.{length}
 use Rattle.maths.specs.Tests.{eqZ, isZero, count, last}
 use Rattle.maths.specs.Sums.{join}
 use Rattle.maths.specs.Repeat.{repeat}
 use Rattle.rules.specs.declared.form.Fault.{Fault}
-use Rattle.rules.specs.Complex.{Complex, Chain, bare, empty}
+use Rattle.rules.specs.Complex.{Complex, Chain, bare}
 use Rattle.rules.specs.Operators.{step, afterStep}
 use Rattle.rules.specs.Form.{byteAt, after, makeAt, afterOperator, facesOf, faultNumber}
 

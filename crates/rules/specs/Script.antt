@@ -1,14 +1,15 @@
 -- Running a script: "operators run in order up to the first refusal; earlier ones remain".
-use mathlib.Core.Bool.{Bool, cond, _&&_}
+use mathlib.Core.Bool.{Bool, cond}
 use mathlib.Core.List.{List}
 use Prim.Native.Nat.{ℕ, zero, suc, _+_}
 use lib.Dec.{eqb}
+use lib.IntN.{ℤ, pos, _+ℤ_}
 use lib.ListN.{getD}
 use Rattle.maths.specs.Tests.{all}
 use Rattle.maths.specs.Repeat.{repeat}
 use Rattle.rules.specs.Refusals.{accepted, stale}
 use Rattle.rules.specs.Complex.{Complex}
-use Rattle.rules.specs.Operators.{step, afterStep}
+use Rattle.rules.specs.Operators.{amountOf, step, afterStep}
 use Rattle.rules.specs.Form.{operatorAt, afterOperator, facesOf, faultNumber, scriptForm, after}
 
 -- "the answer has the number accepted, printed as run, and the refusal"
@@ -35,6 +36,11 @@ runOne s h go =
 -- n operators
 unfoldable pub runFrom : List ℕ → ℕ → Here → Ended
 runFrom s n h = repeat (runOne s) (λ h. ended (h .now) (h .ran) accepted) n h
+
+-- what the first n operators from `at` add to the Euler number by the table
+unfoldable pub movedBy : List ℕ → ℕ → ℕ → ℤ
+movedBy s zero at = pos 0
+movedBy s (suc n) at = afterOperator (operatorAt s at) (λ f. pos 0) λ o next. amountOf o +ℤ movedBy s n next
 
 -- the base counts are the pattern's
 unfoldable pub sameBase : List ℕ → Complex → Bool

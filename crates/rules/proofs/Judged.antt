@@ -1,0 +1,63 @@
+-- What the tests on columns say.
+use mathlib.Core.Path.{_≡_, ap}
+use mathlib.Core.Logic.{_≢_}
+use mathlib.Core.Bool.{true, false, not}
+use Prim.Native.Nat.{ℕ, _<_, _≤_}
+use borrow.Author.Tests.{eqb-true, eq-eqb, not-true}
+use lib.Dec.{eqb}
+use lib.IntN.{pos, negsuc, natAbs}
+use Rattle.maths.specs.Tests.{isZero, isUnit, all}
+use Rattle.maths.specs.Sums.{dot}
+use Rattle.maths.proofs.Cases.{and-left, and-right, and-both}
+use Rattle.maths.proofs.Tests.{zero-is, zero-true, zero-false, not-zero, unit-true, unit-is, all-at, all-of, all-not, all-false}
+use Rattle.rules.specs.Complex.{Layer, Chain}
+use Rattle.rules.specs.Good.{times, OneEach, oneEach, allZero, closes}
+use Rattle.rules.specs.Operators.{proper}
+
+module _ (v : Chain) where
+  pub one-each-true : oneEach v ≡ true → OneEach v
+  unfolding oneEach
+  one-each-true e = record {
+    tail = eqb-true (times (negsuc 0) v) 1 (and-left _ _ e);
+    head = eqb-true (times (pos 1) v) 1 (and-right (eqb (times (negsuc 0) v) 1) _ e);
+  }
+
+  pub one-each-is : OneEach v → oneEach v ≡ true
+  unfolding oneEach
+  one-each-is o = and-both (eq-eqb (times (negsuc 0) v) 1 (o .tail)) (eq-eqb (times (pos 1) v) 1 (o .head))
+
+  pub all-zero-at : allZero v ≡ true → (i : ℕ) → i < 96 → v i ≡ pos 0
+  unfolding allZero
+  all-zero-at e i h = zero-true (all-at 96 (λ i. isZero (v i)) e i h)
+
+  pub all-zero-is : ((i : ℕ) → i < 96 → v i ≡ pos 0) → allZero v ≡ true
+  unfolding allZero
+  all-zero-is z = all-of 96 (λ i h. rw (z i h) zero-is)
+
+  pub some-face : allZero v ≡ false → (i : ℕ) × (i < 96) × (v i ≢ pos 0)
+  unfolding allZero
+  some-face e = let f = all-false 96 (λ i. isZero (v i)) e in (f .0, f .1, zero-false (f .2))
+
+  pub has-face : (i : ℕ) → i < 96 → v i ≢ pos 0 → allZero v ≡ false
+  unfolding allZero
+  has-face i h n = all-not 96 (λ i. isZero (v i)) i h (not-zero n)
+
+  pub proper-units : proper v ≡ true → (i : ℕ) → i < 96 → natAbs (v i) ≤ 1
+  unfolding proper
+  proper-units e i h = unit-true (v i) (all-at 96 (λ i. isUnit (v i)) (and-left _ _ e) i h)
+
+  pub proper-face : proper v ≡ true → (i : ℕ) × (i < 96) × (v i ≢ pos 0)
+  unfolding proper
+  proper-face e = some-face (not-true (allZero v) (and-right (all 96 (λ i. isUnit (v i))) _ e))
+
+  pub proper-is : ((i : ℕ) → i < 96 → natAbs (v i) ≤ 1) → (i : ℕ) → i < 96 → v i ≢ pos 0 → proper v ≡ true
+  unfolding proper
+  proper-is u i h n = and-both (all-of 96 (λ i h. unit-is (v i) (u i h))) (ap not (has-face i h n))
+
+  pub closes-at : (rows : ℕ) (A : Layer) → closes rows A v ≡ true → (r : ℕ) → r < rows → dot (A .n) (λ i. A .d r i) (λ i. v i) ≡ pos 0
+  unfolding closes
+  closes-at rows A e r h = zero-true (all-at rows (λ r. isZero (dot (A .n) (λ i. A .d r i) (λ i. v i))) e r h)
+
+  pub closes-is : (rows : ℕ) (A : Layer) → ((r : ℕ) → r < rows → dot (A .n) (λ i. A .d r i) (λ i. v i) ≡ pos 0) → closes rows A v ≡ true
+  unfolding closes
+  closes-is rows A z = all-of rows (λ r h. rw (z r h) zero-is)

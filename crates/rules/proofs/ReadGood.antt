@@ -1,0 +1,75 @@
+-- What the mesh reader accepts is good.
+use mathlib.Core.Path.{_≡_, refl}
+use mathlib.Core.List.{List}
+use Prim.Native.Nat.{ℕ, zero, suc, _<_, _≤_}
+use native.Mathlib.Omega.{arith}
+use lib.IntN.{pos}
+use Rattle.maths.specs.Repeat.{repeat}
+use Rattle.maths.proofs.Dots.{dot-0-l}
+use Rattle.rules.specs.Complex.{Complex}
+use Rattle.rules.specs.Good.{Good}
+use Rattle.rules.specs.Operators.{step}
+use Rattle.rules.specs.Form.{byteAt, makeAt, facesOf}
+use Rattle.rules.specs.Mesh.{Reading, faulty, refused, taken, Place, corners, readCell, readSection, readMesh}
+use Rattle.rules.proofs.Fields.{byte-says}
+use Rattle.rules.proofs.Branches.{after-each, operator-each, step-each}
+use Rattle.rules.proofs.Decoded.{made}
+use Rattle.rules.proofs.Steps.{edit-kept, removal-kept}
+
+-- a pattern that was taken is good
+abbrev IfTaken : Reading → Type 0
+IfTaken (faulty f) = Unit {0}
+IfTaken (refused r) = Unit {0}
+IfTaken (taken X used) = Good X
+
+pub corners-good : (n : ℕ) → n ≤ 96 → Good (corners n)
+corners-good n h = record {
+  few = few;
+  units = λ k i j. rw (none k i j) (omega arith);
+  rows = λ k i j l. refl;
+  columns = λ k i j l. none k i j;
+  seams = λ j l. absurd (omega arith);
+  faces = λ k j l. absurd (omega arith);
+  null = λ k r j. dot-0-l 96 _ (λ i l. refl);
+  ground = λ i j. refl;
+  top = top;
+}
+  where
+    few : (k : ℕ) → corners n k .n ≤ 96
+    few zero = h
+    few (suc k) = omega arith
+
+    none : (k i j : ℕ) → corners n k .d i j ≡ pos 0
+    none zero i j = refl
+    none (suc k) i j = refl
+
+    top : (k : ℕ) → 3 < k → corners n k .n ≡ 0
+    top zero l = absurd (omega arith)
+    top (suc k) l = refl
+
+module _ (s : List ℕ) where
+  -- cells of dimension k, and what follows them
+  cells-good : (k : ℕ) → k ≤ 3 → (go : Place → Reading) → ((x : Place) → Good (x .0) → IfTaken (go x)) → (n : ℕ) (x : Place) → Good (x .0) → IfTaken (repeat (readCell s k) go n x)
+  unfolding repeat readCell
+  cells-good k d go then zero x G = then x G
+  cells-good k d go then (suc n) x G =
+      operator-each IfTaken (makeAt s k (x .1)) (λ f. tt) λ o next e.
+      let F = made s (x .1) k d e .1 in
+      step-each IfTaken (step o (facesOf s o) (x .0)) (λ r. tt)
+      (λ S q. cells-good k d go then n _ (edit-kept G s o F q .kept .good))
+      (λ Y q. cells-good k d go then n _ (removal-kept G s o F q .good))
+
+  section-good : (k : ℕ) → k ≤ 3 → (go : Place → Reading) → ((x : Place) → Good (x .0) → IfTaken (go x)) → (x : Place) → Good (x .0) → IfTaken (readSection s k x go)
+  unfolding readSection
+  section-good k d go then x G = after-each IfTaken (byteAt s (x .1) 0 96) (λ f. tt) (λ n e. cells-good k d go then n _ G)
+
+  read-each : IfTaken (readMesh s)
+  unfolding readMesh
+  read-each =
+      after-each IfTaken (byteAt s 0 0 96) (λ f. tt) λ n e.
+      section-good 1 (omega arith) _ (λ x G.
+      section-good 2 (omega arith) _ (λ y H.
+      section-good 3 (omega arith) _ (λ z I. I) y H) x G) _ (corners-good n (byte-says s 0 0 96 n e .most))
+
+  pub read-good : (X : Complex) (used : ℕ) → readMesh s ≡ taken X used → Good X
+  read-good X used e = rw e at read-each
