@@ -36,8 +36,18 @@ pub mod CarriedRuns
 pub mod Undone
 pub mod Merged
 pub mod Undo
--- Reading
+-- Reading and writing undo each other
 pub mod ReadGood
+pub mod Places
+pub mod Repeats
+pub mod SeamEnds
+pub mod ListsRead
+pub mod CellsRead
+pub mod Begun
+pub mod ReadWritten
+pub mod ListsWritten
+pub mod CellsWritten
+pub mod WrittenRead
 -- Refusals, limits and outcomes of the calls
 pub mod Refused
 pub mod Limits
