@@ -15,7 +15,7 @@ use Rattle.rules.specs.Refusals.{accepted, wrongLength, notGood, wrongFo
 use Rattle.rules.specs.Complex.{Pattern, Complex, Chain, empty, complex, countsOf, stored, euler}
 use Rattle.rules.specs.Good.{isGood}
 use Rattle.rules.specs.Edits.{boundary}
-use Rattle.rules.specs.Operators.{step, afterStep}
+use Rattle.rules.specs.Operators.{Outcome, step, afterStep}
 use Rattle.rules.specs.Form.{loneOperator, afterOperator, facesOf, faultNumber, within}
 use Rattle.rules.specs.Mesh.{readMesh, afterReading, writeMesh}
 use Rattle.rules.specs.Script.{runScript}
@@ -76,14 +76,18 @@ eulerCall p =
     onGood (sized p) (complex p) (λ r. record { number = pos 0; refusal = r }) λ X.
     record { number = euler X; refusal = accepted }
 
+-- what an operator's outcome leaves of a stored pattern
+abbrev pub applied : Pattern → Outcome → Lent Applied
+applied p o =
+    afterStep o (λ r. lent (record { counts = p .counts; refusal = r }) p) λ Y.
+    lent (record { counts = countsOf Y; refusal = accepted }) (stored Y)
+
 -- "A single operator call takes the bytes of one operator, without base, count or refusal 13."
 unfoldable pub applyCall : Pattern → List ℕ → Lent Applied
 applyCall p s =
     let refuse : ℕ → Lent Applied = λ r. lent (record { counts = p .counts; refusal = r }) p in
     onGood (sized p) (complex p) refuse λ X.
-    afterOperator (loneOperator s) (λ f. refuse (faultNumber f)) λ o next.
-    afterStep (step o (facesOf s o) X) refuse λ Y.
-    lent (record { counts = countsOf Y; refusal = accepted }) (stored Y)
+    afterOperator (loneOperator s) (λ f. refuse (faultNumber f)) λ o next. applied p (step o (facesOf s o) X)
 
 -- "An operator or script refused by 1 or 2 hands back the counts it was lent, changes no byte and accepts nothing."
 unfoldable pub runCall : Pattern → List ℕ → Lent ScriptRun
