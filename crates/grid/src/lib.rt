@@ -1,0 +1,5 @@
+// Loops over one matrix of 9,216 signed bytes.
+pub mod byte;
+pub mod changes;
+pub mod removals;
+pub mod tests;
