@@ -1,7 +1,9 @@
--- What holds of every way on holds of an answer: one law for each branching of the definitions.
+-- What holds of every way on holds of an answer: one law for each branching of the definitions. And outcomes of different kinds differ.
 use mathlib.Core.Path.{_≡_, refl}
+use mathlib.Core.Logic.{_≢_}
 use mathlib.Core.Bool.{Bool, true, false, cond}
 use Prim.Native.Nat.{ℕ}
+use native.Mathlib.Omega.{arith}
 use Rattle.rules.specs.declared.form.Fault.{Fault}
 use Rattle.rules.specs.declared.form.Field.{Field}
 use Rattle.rules.specs.declared.form.OperatorForm.{OperatorForm}
@@ -51,3 +53,13 @@ module _ {A : Type 0} (P : A → Type 0) where
   good-each true true h k l = h refl refl
   good-each true false h k l = k
   good-each false good h k l = l
+
+-- outcomes of different kinds differ
+pub refused-edited : {S : ℕ → Step} (r : ℕ) → refused r ≢ edited S
+refused-edited r e = let z : _≡_ {A = ℕ} 0 1 = cc in omega arith
+
+pub refused-removed : {Y : Complex} (r : ℕ) → refused r ≢ removed Y
+refused-removed r e = let z : _≡_ {A = ℕ} 0 1 = cc in omega arith
+
+pub edited-removed : {S : ℕ → Step} {Y : Complex} → edited S ≢ removed Y
+edited-removed e = let z : _≡_ {A = ℕ} 0 1 = cc in omega arith

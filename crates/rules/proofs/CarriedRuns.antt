@@ -1,4 +1,4 @@
--- Carrying through any accepted script of makes, splits and flips is a chain map that loses nothing, and the pattern is the one that the script leaves.
+-- Carrying through an accepted script of makes, splits and flips is a chain map that loses nothing, and the pattern is the one that the script leaves.
 use mathlib.Core.Path.{_≡_, _∙_, ap}
 use mathlib.Core.List.{List}
 use Prim.Native.Nat.{ℕ, zero, suc, _+_}
@@ -14,9 +14,9 @@ use Rattle.rules.specs.Operators.{Outcome, refused, edited}
 use Rattle.rules.specs.Form.{operatorAt, facesOf, scriptForm}
 use Rattle.rules.specs.Script.{ended, runOne, runFrom, sameBase, runScript}
 use Rattle.rules.specs.Chains.{carryStep, carryOne, carryFrom, carryScript}
-use Rattle.rules.proofs.Branches.{cond-each, after-each, operator-each, carry-each}
+use Rattle.rules.proofs.Branches.{cond-each, after-each, operator-each, carry-each, refused-edited}
 use Rattle.rules.proofs.Carries.{Carries, kept-carries, then-carries}
-use Rattle.rules.proofs.Edited.{carry-step}
+use Rattle.rules.proofs.Passed.{carry-step}
 use Rattle.rules.proofs.Decoded.{decoded}
 use Rattle.rules.proofs.Steps.{edit-kept}
 
@@ -25,7 +25,7 @@ abbrev IfEdited : ((ℕ → Step) → Type 0) → Outcome → Type 0
 IfEdited P o = (R : ℕ → Step) → o ≡ edited R → P R
 
 no-edit : {r : ℕ} {R : ℕ → Step} {A : Type 0} → refused r ≡ edited R → A
-no-edit e = let z : _≡_ {A = ℕ} 0 1 = cc in absurd (omega arith)
+no-edit {r} e = absurd (refused-edited r e)
 
 -- what became of layers and chains since X, in a good pattern
 pub record Carried (X : Complex) (S : ℕ → Step) : Type 0 where
@@ -58,16 +58,17 @@ module _ (s : List ℕ) where
   unfolding runFrom carryFrom repeat runOne carryOne
   carry-runs zero at ran S = λ R e. let q : S ≡ R = cc in rw (← q, add-zero)
   carry-runs (suc n) at ran S =
-      let Same : Outcome → Type 0 = IfEdited (λ R. runFrom s (suc n) (record { now = layers S; ran = ran; at = at }) ≡ ended (layers R) (ran + suc n) accepted) in
-      operator-each Same (operatorAt s at) (λ f R e. no-edit e) λ o next d.
-      carry-each Same (carryStep o (facesOf s o) (layers S)) (λ r q R e. no-edit e) (λ R e. no-edit e) λ S' q R e.
+      let P : Outcome → Type 0 = IfEdited (λ R. runFrom s (suc n) (record { now = layers S; ran = ran; at = at }) ≡ ended (layers R) (ran + suc n) accepted) in
+      operator-each P (operatorAt s at) (λ f R e. no-edit e) λ o next d.
+      carry-each P (carryStep o (facesOf s o) (layers S)) (λ r q R e. no-edit e) (λ R e. no-edit e) λ S' q R e.
       let ahead : ran + 1 + n ≡ ran + suc n = omega arith in
       rw (d, carry-step o (facesOf s o) (layers S) q, ← ahead) (carry-runs n next (ran + 1) _ R e)
 
   pub script-runs : (X : Complex) (R : ℕ → Step) → carryScript s X ≡ edited R → (n : ℕ) × (scriptForm s ≡ Field.Got n) × (runScript s X ≡ ended (layers R) n accepted)
   unfolding carryScript runScript
   script-runs X =
-      after-each (IfEdited (λ R. (n : ℕ) × (scriptForm s ≡ Field.Got n) × (runScript s X ≡ ended (layers R) n accepted))) (scriptForm s) (λ f R e. no-edit e) λ n f.
-      cond-each (IfEdited (λ R. (n : ℕ) × (scriptForm s ≡ Field.Got n) × (runScript s X ≡ ended (layers R) n accepted))) (sameBase s X)
+      let P : Outcome → Type 0 = IfEdited (λ R. (n : ℕ) × (scriptForm s ≡ Field.Got n) × (runScript s X ≡ ended (layers R) n accepted)) in
+      after-each P (scriptForm s) (λ f R e. no-edit e) λ n f.
+      cond-each P (sameBase s X)
       (λ t R e. (n, f, rw (f, t) (carry-runs n 7 0 (λ q. kept (X q)) R e ∙ ap (λ (k : ℕ). ended (layers R) k accepted) (zero-add n))))
       (λ t R e. no-edit e)

@@ -1,5 +1,4 @@
--- What it is for chains to be carried: a chain map that loses nothing. It is so if nothing is done, of one after another, and of a change of three
--- neighbouring dimensions, if it is so there.
+-- What it is that chains are carried: a chain map that loses nothing. So it is of no change, of one after another, and of a change of three dimensions.
 use mathlib.Core.Path.{_≡_, refl, _∙_, ap, fun-ext}
 use Prim.Native.Nat.{ℕ, suc}
 use native.Mathlib.Omega.{arith}

@@ -10,33 +10,27 @@ use borrow.Author.Tests.{ne-eqb, lt-ltb}
 use lib.Dec.{ltb}
 use lib.IntN.{pos, natAbs}
 use Rattle.maths.specs.Tests.{all}
-use Rattle.maths.proofs.Integers.{ints}
 use Rattle.maths.proofs.Cases.{eq-or, lt-or, and-both}
 use Rattle.maths.proofs.Tests.{all-of, count-le}
-use Rattle.maths.proofs.Dots.{dot-more}
 use Rattle.rules.specs.declared.form.Field.{Field}
 use Rattle.rules.specs.declared.form.OperatorForm.{OperatorForm}
 use Rattle.rules.specs.declared.operator.Operator.{Operator}
 use Rattle.rules.specs.Complex.{Complex, Chain}
-use Rattle.rules.specs.Good.{OneEach, allZero, closes}
+use Rattle.rules.specs.Good.{allZero, closes}
 use Rattle.rules.specs.Edits.{layers, make}
 use Rattle.rules.specs.Operators.{Faces, chainOf, allBelow, closed, makeStep, step, edited}
 use Rattle.rules.specs.Form.{entriesAt, listAt, makeAt, madeOf}
-use Rattle.rules.specs.Mesh.{tailOf, headOf, eachFace, writeCell, Place, Reading, readCell}
-use Rattle.rules.proofs.Frame.{Within}
+use Rattle.rules.specs.Mesh.{eachFace, writeCell, Place, Reading, readCell}
+use Rattle.rules.proofs.Frame.{Within, face-below}
 use Rattle.rules.proofs.Allowed.{CanMake}
+use Rattle.rules.proofs.Seams.{Ends, minus-not-zero, one-not-zero, tail-is, head-is}
+use Rattle.rules.proofs.Faces.{ends-chain}
+use Rattle.rules.proofs.Columns.{Bounds, bounds-face, made-bounds}
 use Rattle.rules.proofs.Judged.{has-face, closes-is}
 use Rattle.rules.proofs.Fields.{byte-got}
-use Rattle.rules.proofs.Places.{Text, byte, two}
+use Rattle.rules.proofs.Texts.{Text, byte, two}
 use Rattle.rules.proofs.ListsRead.{faceCount, faceText, below}
 use Rattle.rules.proofs.Decoded.{made}
-use Rattle.rules.proofs.SeamEnds.{Seam, seam-of, tail-face, head-face, ends-chain}
-
--- a column of dimension k
-record Column (k : ℕ) (v : Chain) : Type 0 where
-  within : Within 96 v
-  units : (i : ℕ) → natAbs (v i) ≤ 1
-  seam : k ≡ 1 → OneEach v
 
 -- the cell with the column v of dimension k, read from `at` to `next`
 record CellRead (s : List ℕ) (k at : ℕ) (v : Chain) (next : ℕ) : Type 0 where
@@ -45,22 +39,22 @@ record CellRead (s : List ℕ) (k at : ℕ) (v : Chain) (next : ℕ) : Type 0 wh
   faces : (l : ℕ) → l < madeOf s k at .n → v (madeOf s k at .number l) ≢ pos 0
 
 module _ {s : List ℕ} {at next : ℕ} {v : Chain} where
-  seam-read : Seam v → Text s at (tailOf v ∷ headOf v ∷ []) next → CellRead s 1 at v next
+  seam-read : {a b : ℕ} → Ends v a b → Text s at (a ∷ b ∷ []) next → CellRead s 1 at v next
   unfolding makeAt madeOf
-  seam-read m r =
+  seam-read {a} {b} E r =
       let t = two r in
       let form : makeAt s 1 at ≡ OperatorForm.Decoded (Operator.Make 1 at) next =
       rw (
-        byte-got s at 0 255 (tailOf v) (record { there = omega arith; is = sym (t .one); least = omega arith; most = omega (arith, m .tail-below) }),
-        byte-got s (at + 1) 0 255 (headOf v) (record { there = t .there; is = sym (t .other); least = omega arith; most = omega (arith, m .head-below) }),
+        byte-got s at 0 255 a (record { there = omega arith; is = sym (t .one); least = omega arith; most = omega (arith, E .low) }),
+        byte-got s (at + 1) 0 255 b (record { there = t .there; is = sym (t .other); least = omega arith; most = omega (arith, E .high) }),
         t .place,
       ) in
       record {
         form = form;
-        chain = ends-chain m (madeOf s 1 at) (made s at 1 (omega arith) form .1 .1 .seam refl) (rw add-zero (t .one)) (t .other);
+        chain = ends-chain (madeOf s 1 at) (made s at 1 (omega arith) form .1 .1 .seam refl) (rw add-zero (t .one)) (t .other) E;
         faces = λ l h. eq-or l 0
-            (λ e. rw (e, add-zero, t .one) (tail-face m))
-            (λ e. let q : l ≡ 1 = omega arith in rw (q, t .other) (head-face m));
+            (λ e. rw (e, add-zero, t .one) (minus-not-zero (E .tail)))
+            (λ e. let q : l ≡ 1 = omega arith in rw (q, t .other) (one-not-zero (E .head)));
       }
 
   list-read : (k : ℕ) → ((i : ℕ) → natAbs (v i) ≤ 1) → Within 96 v → Text s at (faceCount v 96 ∷ faceText v 96) next → CellRead s (suc (suc k)) at v next
@@ -79,42 +73,36 @@ module _ {s : List ℕ} {at next : ℕ} {v : Chain} where
         faces = λ l. rw e (b .each l);
       }
 
-  cell-read : (k : ℕ) → Column (suc k) v → Text s at (writeCell (suc k) v) next → CellRead s (suc k) at v next
+  cell-read : (k : ℕ) → ((i : ℕ) → natAbs (v i) ≤ 1) → Within 96 v → Bounds (suc k) v → Text s at (writeCell (suc k) v) next → CellRead s (suc k) at v next
   unfolding writeCell eachFace
-  cell-read zero c r = seam-read (seam-of (c .seam refl) (c .units) (c .within)) r
-  cell-read (suc k) c r = list-read k (c .units) (c .within) (rw (ne-eqb (suc (suc k)) 1 (omega arith)) at r)
+  cell-read zero u w b r = let E = b .seam refl .2 in seam-read E (rw (tail-is E, head-is E) at r)
+  cell-read (suc k) u w b r = list-read k u w (rw (ne-eqb (suc (suc k)) 1 (omega arith)) at r)
 
-module _ {v : Chain} {X : Complex} where
-  column-of : (k : ℕ) → X k .n ≤ 96 → CanMake (suc k) v X → Column (suc k) v
-  column-of k few c = record { within = λ i h. c .faces k refl i (omega arith); units = c .units; seam = c .seam }
+module _ {v : Chain} {X : Complex} (k : ℕ) (few : X k .n ≤ 96) (c : CanMake (suc k) v X) where
+  own : Within 96 v
+  own i h = c .faces k refl i (omega arith)
 
-  a-face : (k : ℕ) → X k .n ≤ 96 → CanMake (suc k) v X → (i : ℕ) × (v i ≢ pos 0)
-  a-face zero few c = let q = column-of 0 few c in (tailOf v, tail-face (seam-of (q .seam refl) (q .units) (q .within)))
-  a-face (suc k) few c = c .some (omega arith)
+  bounds : Bounds (suc k) v
+  bounds = made-bounds c (λ q e. let q' : q ≡ k = omega arith in rw q' few)
 
-  closed-is : (k : ℕ) → X k .n ≤ 96 → CanMake (suc k) v X → closed (suc k) v X ≡ true
+  closed-is : closed (suc k) v X ≡ true
   unfolding closed
-  closed-is k few c =
-      let f = a-face k few c in
-      let l : f .0 < 96 = lt-or (f .0) 96 (λ less. less) (λ past. absurd (f .1 (column-of k few c .within (f .0) past))) in
-      let some : not (allZero v) ≡ true = ap not (has-face v (f .0) l (f .1)) in
-      let shut : closes (X (pred k) .n) (X k) v ≡ true = closes-is v (X (pred k) .n) (X k) (λ r h.
-      sym (dot-more (X k .n) 96 (λ i. X k .d r i) (λ i. v i) few (λ i a b. rw (c .faces k refl i a) (simp ints))) ∙ c .closed k refl r) in
+  closed-is =
+      let f = bounds-face k bounds in
+      let some : not (allZero v) ≡ true = ap not (has-face v (f .0) (face-below own (f .0) (f .1)) (f .1)) in
+      let shut : closes (X (pred k) .n) (X k) v ≡ true = closes-is v (X (pred k) .n) (X k) few (c .faces k refl) (c .closed k refl) in
       rw (ne-eqb (suc k) 0 (omega arith)) (and-both some shut)
 
-  cell-made : (k : ℕ) (F : Faces) → chainOf F ≡ v → ((l : ℕ) → l < F .n → v (F .number l) ≢ pos 0) → X k .n ≤ 96 → CanMake (suc k) v X →
-      makeStep (suc k) F X ≡ edited (make (suc k) v X)
+  cell-made : (F : Faces) → chainOf F ≡ v → ((l : ℕ) → l < F .n → v (F .number l) ≢ pos 0) → makeStep (suc k) F X ≡ edited (make (suc k) v X)
   unfolding makeStep allBelow
-  cell-made k F e f few c =
-      let a : all (F .n) (λ l. ltb (F .number l) (X k .n)) ≡ true = all-of (F .n) (λ l h. lt-ltb (F .number l) (X k .n)
-      (lt-or (F .number l) (X k .n) (λ less. less) (λ past. absurd (f l h (c .faces k refl (F .number l) past))))) in
+  cell-made F e f =
+      let a : all (F .n) (λ l. ltb (F .number l) (X k .n)) ≡ true =
+      all-of (F .n) (λ l h. lt-ltb (F .number l) (X k .n) (face-below (c .faces k refl) (F .number l) (f l h))) in
       let r : ltb (X (suc k) .n) 96 ≡ true = lt-ltb (X (suc k) .n) 96 (c .room) in
-      rw (e, a, r, closed-is k few c)
+      rw (e, a, r, closed-is)
 
   -- the whole of reading one cell
-  pub cell-taken : {s : List ℕ} {at next : ℕ} (k : ℕ) → X k .n ≤ 96 → CanMake (suc k) v X → Text s at (writeCell (suc k) v) next →
+  pub cell-taken : {s : List ℕ} {at next : ℕ} → Text s at (writeCell (suc k) v) next →
       (go : Place → Reading) → readCell s (suc k) (X, at) go ≡ go (layers (make (suc k) v X), next)
   unfolding readCell step
-  cell-taken {s} {at} {next} k few c r go =
-      let q = cell-read k (column-of k few c) r in
-      rw (q .form, cell-made k (madeOf s (suc k) at) (q .chain) (q .faces) few c)
+  cell-taken {s} {at} {next} r go = let q = cell-read k (c .units) own bounds r in rw (q .form, cell-made (madeOf s (suc k) at) (q .chain) (q .faces))

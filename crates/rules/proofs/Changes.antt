@@ -1,16 +1,17 @@
--- Laws of `at3`, the change of three neighbouring places of a sequence, and of `put`, the change of one coefficient.
+-- Laws of `at3`, which changes three neighbouring places of a sequence, of `put`, which changes one coefficient, and of `part` and `rest`.
 use mathlib.Core.Path.{_≡_, refl, sym, fun-ext}
 use mathlib.Core.Logic.{_≢_}
+use mathlib.Core.Bool.{Bool, true, false, cond}
 use Prim.Native.Nat.{ℕ, suc}
 use native.Mathlib.Omega.{arith}
 use borrow.Author.Tests.{ne-eqb}
-use lib.IntN.{ℤ, pos, _+ℤ_, _*ℤ_, +ℤ-idl, +ℤ-idr, *ℤ-zero}
+use lib.IntN.{ℤ, pos, _+ℤ_, _-ℤ_, _*ℤ_, +ℤ-idl, +ℤ-idr, +ℤ-invr, -ℤ-+ℤ-cancel, *ℤ-zero}
 use Rattle.maths.specs.Sums.{δ}
 use Rattle.maths.proofs.Integers.{*ℤ-1}
-use Rattle.maths.proofs.Cases.{eqb-same, eq-or}
+use Rattle.maths.proofs.Cases.{eqb-same, eq-or, by-bool}
 use Rattle.maths.proofs.Sums.{δ-same, δ-no}
 use Rattle.rules.specs.Complex.{Chain}
-use Rattle.rules.specs.Edits.{at3, put}
+use Rattle.rules.specs.Edits.{at3, put, part, rest}
 
 module _ {A : Type 0} (m : ℕ) (f : ℕ → A) (x y z : A) where
   pub at3-0 : at3 m f x y z m ≡ x
@@ -69,3 +70,24 @@ put-is t z c h = fun-ext (put-each t z c (λ i x. x ≡ c i +ℤ z *ℤ δ t i)
 -- 0 put where it is 0 changes nothing
 pub put-zero : (t : ℕ) (c : Chain) → c t ≡ pos 0 → put t (pos 0) c ≡ c
 put-zero t c h = fun-ext (put-each t (pos 0) c (λ i x. x ≡ c i) (sym h) (λ i e. refl))
+
+module _ (p : ℕ → Bool) (v : Chain) where
+  -- by cases on whether i is chosen
+  pub part-each : (P : ℤ → Type 0) (i : ℕ) → (p i ≡ true → P (v i)) → (p i ≡ false → P (pos 0)) → P (part p v i)
+  unfolding part
+  part-each P i = by-bool (p i) (λ t. P (cond t (v i) (pos 0)))
+
+  pub rest-each : (P : ℤ → Type 0) (i : ℕ) → (p i ≡ true → P (pos 0)) → (p i ≡ false → P (v i)) → P (rest p v i)
+  unfolding rest
+  rest-each P i = by-bool (p i) (λ t. P (cond t (pos 0) (v i)))
+
+  pub part-zero : (i : ℕ) → v i ≡ pos 0 → part p v i ≡ pos 0
+  part-zero i h = part-each (λ z. z ≡ pos 0) i (λ _. h) (λ _. refl)
+
+  -- the rest is what is left of the whole without the part
+  pub rest-is : (i : ℕ) → rest p v i ≡ v i -ℤ part p v i
+  unfolding part rest
+  rest-is i = by-bool (p i) (λ t. cond t (pos 0) (v i) ≡ v i -ℤ cond t (v i) (pos 0)) (λ _. sym (+ℤ-invr (v i))) (λ _. sym (+ℤ-idr (v i)))
+
+  pub rest-part : (i : ℕ) → rest p v i +ℤ part p v i ≡ v i
+  rest-part i = rw (rest-is i, -ℤ-+ℤ-cancel)

@@ -28,7 +28,7 @@ sign-suc : (k : ℕ) → sign (suc k) ≡ negℤ (sign k)
 unfolding sign
 sign-suc k = refl
 
-pub euler-is : (X : Complex) → euler X ≡ dot 4 (λ k. sign k) (λ k. pos (X k .n))
+euler-is : (X : Complex) → euler X ≡ dot 4 (λ k. sign k) (λ k. pos (X k .n))
 unfolding euler dot sum sign
 euler-is X = simp ints
 

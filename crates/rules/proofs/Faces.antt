@@ -7,15 +7,16 @@ use native.Mathlib.Omega.{arith}
 use borrow.Author.Tests.{ltb-true, eqb-true, not-true, not-false, eqb-false}
 use lib.Dec.{eqb, ltb}
 use lib.IntN.{ℤ, pos, negsuc, natAbs, _-ℤ_, _*ℤ_, *ℤ-zero, +ℤ-comm, +ℤ-invr}
-use Rattle.maths.specs.Tests.{eqZ, all}
+use Rattle.maths.specs.Tests.{all}
 use Rattle.maths.specs.Sums.{δ}
 use Rattle.maths.proofs.Integers.{ints, *ℤ-1}
 use Rattle.maths.proofs.Cases.{eq-or, bool-or}
-use Rattle.maths.proofs.Tests.{all-at, all-false, count-one}
+use Rattle.maths.proofs.Tests.{all-at, all-false}
 use Rattle.maths.proofs.Sums.{sum-zero, sum-suc, sum-one, sum-all-0, δ-same, δ-no}
-use Rattle.rules.specs.Good.{OneEach}
+use Rattle.rules.specs.Complex.{Chain}
 use Rattle.rules.specs.Operators.{Faces, chainOf, allBelow}
 use Rattle.rules.proofs.Frame.{Within}
+use Rattle.rules.proofs.Seams.{Ends, same-ends}
 
 -- signed faces, each of them once
 pub record Distinct (F : Faces) : Type 0 where
@@ -23,8 +24,8 @@ pub record Distinct (F : Faces) : Type 0 where
   pub apart : (l l' : ℕ) → l < F .n → l' < F .n → l ≢ l' → F .number l ≢ F .number l'
   pub signs : (l : ℕ) → l < F .n → natAbs (F .sign l) ≡ 1
 
--- tail and head
-pub record Ends (F : Faces) : Type 0 where
+-- the tail, then the head
+pub record TailHead (F : Faces) : Type 0 where
   pub two : F .n ≡ 2
   pub tail : F .sign 0 ≡ negsuc 0
   pub head : F .sign 1 ≡ pos 1
@@ -32,7 +33,7 @@ pub record Ends (F : Faces) : Type 0 where
 -- the faces that a cell of dimension k is made with
 pub record Given (k : ℕ) (F : Faces) : Type 0 where
   pub corner : k ≡ 0 → F .n ≡ 0
-  pub seam : k ≡ 1 → Ends F
+  pub seam : k ≡ 1 → TailHead F
   pub signed : 2 ≤ k → Distinct F
 
 module _ (F : Faces) where
@@ -63,48 +64,46 @@ module _ (F : Faces) where
       sum-one (F .n) l h (λ l' h' q. rw (δ-no (F .number l') (F .number l) (D .apart l l' h h' (λ e. q (sym e)))) (*ℤ-zero (F .sign l')))
       ∙ rw (δ-same (F .number l)) (*ℤ-1 (F .sign l))
 
-  pub chain-units : Distinct F → (i : ℕ) → natAbs (chainOf F i) ≤ 1
+  chain-units : Distinct F → (i : ℕ) → natAbs (chainOf F i) ≤ 1
   chain-units D i = listed-or i
       (λ l h e. rw (← e, chain-at D l h) (omega (arith, D .signs l h)))
       (λ off. rw (chain-off i off) (omega arith))
 
-  module _ (E : Ends F) where
-    pub seam-chain : (i : ℕ) → chainOf F i ≡ δ (F .number 1) i -ℤ δ (F .number 0) i
+  module _ (T : TailHead F) where
+    seam-chain : (i : ℕ) → chainOf F i ≡ δ (F .number 1) i -ℤ δ (F .number 0) i
     unfolding chainOf
     seam-chain i =
         let f : ℕ → ℤ = λ l. F .sign l *ℤ δ (F .number l) i in
-        rw (E .two, sum-suc 1 f, sum-suc 0 f, sum-zero f, E .tail, E .head) (simp (ints, +ℤ-comm))
+        rw (T .two, sum-suc 1 f, sum-suc 0 f, sum-zero f, T .tail, T .head) (simp (ints, +ℤ-comm))
 
-    -- by cases on whether a cell is tail, head or neither
-    pub seam-tail : F .number 0 ≢ F .number 1 → chainOf F (F .number 0) ≡ negsuc 0
-    seam-tail a = rw (seam-chain (F .number 0), δ-no (F .number 1) (F .number 0) a, δ-same)
-
-    pub seam-head : F .number 0 ≢ F .number 1 → chainOf F (F .number 1) ≡ pos 1
-    seam-head a = rw (seam-chain (F .number 1), δ-no (F .number 0) (F .number 1) (λ e. a (sym e)), δ-same)
-
-    pub seam-off : (i : ℕ) → i ≢ F .number 0 → i ≢ F .number 1 → chainOf F i ≡ pos 0
+    seam-off : (i : ℕ) → i ≢ F .number 0 → i ≢ F .number 1 → chainOf F i ≡ pos 0
     seam-off i t h = rw (seam-chain i, δ-no (F .number 0) i t, δ-no (F .number 1) i h)
 
+    -- of a cell with itself nothing is left
     pub seam-none : F .number 0 ≡ F .number 1 → (i : ℕ) → chainOf F i ≡ pos 0
     seam-none e i = rw (seam-chain i, e) (+ℤ-invr (δ (F .number 1) i))
 
-    pub seam-units : (i : ℕ) → natAbs (chainOf F i) ≤ 1
-    seam-units i = eq-or (F .number 0) (F .number 1)
-        (λ e. rw (seam-none e i) (omega arith))
-        (λ a. eq-or i (F .number 0)
-        (λ e. rw (e, seam-tail a) (omega arith))
-        (λ t. eq-or i (F .number 1)
-        (λ e. rw (e, seam-head a) (omega arith))
-        (λ h. rw (seam-off i t h) (omega arith))))
+    module _ (a : F .number 0 ≢ F .number 1) where
+      seam-tail : chainOf F (F .number 0) ≡ negsuc 0
+      seam-tail = rw (seam-chain (F .number 0), δ-no (F .number 1) (F .number 0) a, δ-same)
 
-    pub seam-each : F .number 0 ≢ F .number 1 → F .number 0 < 96 → F .number 1 < 96 → OneEach (chainOf F)
-    unfolding eqZ
-    seam-each a t h = record {
-      tail = count-one 96 (F .number 0) t (rw (seam-tail a))
-          (λ i l k. eq-or i (F .number 1) (λ e. rw (e, seam-head a)) (λ q. rw (seam-off i k q)));
-      head = count-one 96 (F .number 1) h (rw (seam-head a))
-          (λ i l k. eq-or i (F .number 0) (λ e. rw (e, seam-tail a)) (λ q. rw (seam-off i q k)));
-    }
+      seam-head : chainOf F (F .number 1) ≡ pos 1
+      seam-head = rw (seam-chain (F .number 1), δ-no (F .number 0) (F .number 1) (λ e. a (sym e)), δ-same)
+
+      pub seam-ends : F .number 0 < 96 → F .number 1 < 96 → Ends (chainOf F) (F .number 0) (F .number 1)
+      seam-ends t h = record { apart = a; low = t; high = h; tail = seam-tail; head = seam-head; only = seam-off }
+
+    pub ends-chain : {v : Chain} {a b : ℕ} → F .number 0 ≡ a → F .number 1 ≡ b → Ends v a b → chainOf F ≡ v
+    ends-chain {v} p q E =
+        let E' : Ends v (F .number 0) (F .number 1) = rw (p, q) E in
+        same-ends (seam-ends (E' .apart) (E' .low) (E' .high)) E'
+
+    seam-units : (i : ℕ) → natAbs (chainOf F i) ≤ 1
+    seam-units i =
+        eq-or (F .number 0) (F .number 1) (λ e. rw (seam-none e i) (omega arith)) λ a.
+        eq-or i (F .number 0) (λ e. rw (e, seam-tail a) (omega arith)) λ t.
+        eq-or i (F .number 1) (λ e. rw (e, seam-head a) (omega arith)) λ h.
+        rw (seam-off i t h) (omega arith)
 
   -- what they have in common, whatever the dimension
   module _ {k : ℕ} (g : Given k F) where

@@ -1,16 +1,12 @@
--- When two layers are the same; and that a change of three neighbouring layers keeps the frame, if the layers fit where they meet.
-use mathlib.Core.Path.{_≡_, refl, ap₂, fun-ext}
+-- A change of three neighbouring layers keeps the frame, if the layers fit where they meet.
+use mathlib.Core.Path.{_≡_, refl, fun-ext}
 use Prim.Native.Nat.{ℕ, suc, _<_, _≤_}
 use native.Mathlib.Omega.{arith}
 use lib.IntN.{pos}
-use Rattle.maths.specs.Tables.{Entries}
 use Rattle.rules.specs.Complex.{Layer, Complex}
 use Rattle.rules.specs.Edits.{Step, kept, layers, at3}
 use Rattle.rules.proofs.Changes.{at3-0, at3-1, at3-2, at3-no, at3-each, at3-next}
 use Rattle.rules.proofs.Frame.{Fit, Frame}
-
-pub same-layer : {A B : Layer} → A .n ≡ B .n → ((i j : ℕ) → A .d i j ≡ B .d i j) → A ≡ B
-same-layer e h = ap₂ (λ (n : ℕ) (D : Entries). record { n = n; d = D }) e (fun-ext λ i. fun-ext λ j. h i j)
 
 -- A, B and U in place of the layers k, k + 1 and k + 2
 pub record Fits (k : ℕ) (A B U : Layer) (X : Complex) : Type 0 where

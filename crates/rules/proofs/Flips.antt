@@ -14,30 +14,30 @@ use Rattle.rules.proofs.Fitted.{fitted-layers}
 use Rattle.rules.proofs.Carries.{Carries, Keeps, kept-keeps, at3-carries}
 
 -- -1 at c and 1 elsewhere
-unfoldable sign : ℕ → Chain
-sign c = put c (negsuc 0) (λ i. pos 1)
+unfoldable signs : ℕ → Chain
+signs c = put c (negsuc 0) (λ i. pos 1)
 
-sign-twice : (c i : ℕ) (x : ℤ) → sign c i *ℤ (sign c i *ℤ x) ≡ x
-unfolding sign
-sign-twice c i x = rw (← (*ℤ-assoc (sign c i) (sign c i) x)) (put-each c (negsuc 0) (λ i. pos 1) (λ i y. (y *ℤ y) *ℤ x ≡ x) (one-*ℤ x) (λ i e. one-*ℤ x) i)
+signs-twice : (c i : ℕ) (x : ℤ) → signs c i *ℤ (signs c i *ℤ x) ≡ x
+unfolding signs
+signs-twice c i x = rw (← (*ℤ-assoc (signs c i) (signs c i) x)) (put-each c (negsuc 0) (λ i. pos 1) (λ i y. (y *ℤ y) *ℤ x ≡ x) (one-*ℤ x) (λ i e. one-*ℤ x) i)
 
 -- to negate the coefficient of c is to multiply by these signs
-negated-at : (c : ℕ) (v : Chain) (i : ℕ) → negated c v i ≡ sign c i *ℤ v i
-unfolding negated sign
+negated-at : (c : ℕ) (v : Chain) (i : ℕ) → negated c v i ≡ signs c i *ℤ v i
+unfolding negated signs
 negated-at c v i = eq-or i c
     (λ e. rw e (simp (put-same, minus-one-*ℤ)))
     (λ e. rw (put-no c _ v i e, put-no c (negsuc 0) (λ i. pos 1) i e, one-*ℤ))
 
 negated-twice : (c : ℕ) (v : Chain) → negated c (negated c v) ≡ v
-negated-twice c v = fun-ext λ i. simp (negated-at, sign-twice)
+negated-twice c v = fun-ext λ i. simp (negated-at, signs-twice)
 
 -- the two signs of a product cancel
-sign-pair : (c i : ℕ) (x y : ℤ) → (sign c i *ℤ x) *ℤ (sign c i *ℤ y) ≡ x *ℤ y
-sign-pair c i x y = rw (*ℤ-assoc (sign c i) x (sign c i *ℤ y), *ℤ-left-comm x (sign c i) y, sign-twice)
+signs-pair : (c i : ℕ) (x y : ℤ) → (signs c i *ℤ x) *ℤ (signs c i *ℤ y) ≡ x *ℤ y
+signs-pair c i x y = rw (*ℤ-assoc (signs c i) x (signs c i *ℤ y), *ℤ-left-comm x (signs c i) y, signs-twice)
 
-dot-sign : (n c : ℕ) (x y : Chain) → dot n (λ i. sign c i *ℤ x i) (λ i. sign c i *ℤ y i) ≡ dot n (λ i. x i) (λ i. y i)
+dot-signs : (n c : ℕ) (x y : Chain) → dot n (λ i. signs c i *ℤ x i) (λ i. signs c i *ℤ y i) ≡ dot n (λ i. x i) (λ i. y i)
 unfolding dot
-dot-sign n c x y = simp sign-pair
+dot-signs n c x y = simp signs-pair
 
 abbrev flipped : ℕ → Layer → Step
 flipped c A = record { layer = record { n = A .n; d = λ i. negated c (A .d i) }; carried = negated c }
@@ -59,7 +59,7 @@ module _ (c : ℕ) where
     few = F .few;
     rows = λ i j l. rw negated-at (simp (F .rows, ints));
     columns = λ i j l. rw negated-at (simp (F .columns, ints));
-    null = λ r j. simp (negated-at, dot-sign, F .null);
+    null = λ r j. simp (negated-at, dot-signs, F .null);
   }
 
   fit-row : (B W : Layer) → Fit B W → Fit (flippedRow c B) W
@@ -91,7 +91,7 @@ flip-carries k c X = at3-carries (flipped c (X k)) (kept (flippedRow c (X (suc k
     (flipped-keeps c (X k))
     (kept-keeps (X (suc k)) (flippedRow c (X (suc k))) refl)
     (kept-keeps _ (X (suc (suc k))) refl)
-    (λ q e v w r. simp (negated-at, dot-sign))
+    (λ q e v w r. simp (negated-at, dot-signs))
     (λ v w r. simp (negated-at, dot-*l))
     (λ v w r. refl)
     (λ v w r. refl)

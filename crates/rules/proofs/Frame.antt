@@ -1,9 +1,12 @@
--- The two halves of what makes a pattern good: how neighbouring layers fit, and what each column is by itself.
-use mathlib.Core.Path.{_≡_}
+-- When two layers are the same; and the two halves of what makes a pattern good: how neighbouring layers fit, and what each column is by itself.
+use mathlib.Core.Path.{_≡_, ap₂, fun-ext}
 use mathlib.Core.Logic.{_≢_}
 use Prim.Native.Nat.{ℕ, zero, suc, _<_, _≤_}
+use native.Mathlib.Omega.{arith}
 use lib.IntN.{pos, natAbs}
+use Rattle.maths.specs.Tables.{Entries}
 use Rattle.maths.specs.Sums.{dot}
+use Rattle.maths.proofs.Cases.{lt-or}
 use Rattle.maths.proofs.Dots.{dot-0-l}
 use Rattle.rules.specs.Complex.{Layer, Complex, Chain}
 use Rattle.rules.specs.Good.{OneEach, Good}
@@ -11,6 +14,12 @@ use Rattle.rules.specs.Good.{OneEach, Good}
 -- a chain of n cells
 abbrev pub Within : ℕ → Chain → Type 0
 Within n c = (i : ℕ) → n ≤ i → c i ≡ pos 0
+
+pub face-below : {n : ℕ} {c : Chain} → Within n c → (i : ℕ) → c i ≢ pos 0 → i < n
+face-below {n} w i h = lt-or i n (λ l. l) (λ l. absurd (h (w i l)))
+
+pub same-layer : {A B : Layer} → A .n ≡ B .n → ((i j : ℕ) → A .d i j ≡ B .d i j) → A ≡ B
+same-layer e h = ap₂ (λ (n : ℕ) (D : Entries). record { n = n; d = D }) e (fun-ext λ i. fun-ext λ j. h i j)
 
 -- what holds of a layer and the next above it
 pub record Fit (A B : Layer) : Type 0 where
@@ -45,8 +54,12 @@ module _ {X : Complex} where
       null-at zero r j = dot-0-l 96 _ (λ i h. G .ground r i)
       null-at (suc k) r j = G .null k r j
 
-  pub cells-of : Good X → Cells X
-  cells-of G = record { units = G .units; seams = G .seams; faces = G .faces }
+  -- a matrix of a good pattern is 0 from row 96 and from column 96 on
+  pub within-rows : Good X → (k j : ℕ) → Within 96 (λ i. X (suc k) .d i j)
+  within-rows G k j i h = G .rows k i j (omega (arith, G .few k))
+
+  pub within-columns : Good X → (k i : ℕ) → Within 96 (λ j. X k .d i j)
+  within-columns G k i j h = G .columns k i j (omega (arith, G .few k))
 
   pub few-at : Frame X → (k : ℕ) → X k .n ≤ 96
   few-at F zero = F .few

@@ -1,18 +1,20 @@
 -- What the tests on columns say.
-use mathlib.Core.Path.{_≡_, ap}
+use mathlib.Core.Path.{_≡_, _∙_, ap}
 use mathlib.Core.Logic.{_≢_}
 use mathlib.Core.Bool.{true, false, not}
 use Prim.Native.Nat.{ℕ, _<_, _≤_}
 use borrow.Author.Tests.{eqb-true, eq-eqb, not-true}
 use lib.Dec.{eqb}
-use lib.IntN.{pos, negsuc, natAbs}
+use lib.IntN.{pos, negsuc, natAbs, *ℤ-zero}
 use Rattle.maths.specs.Tests.{isZero, isUnit, all}
 use Rattle.maths.specs.Sums.{dot}
 use Rattle.maths.proofs.Cases.{and-left, and-right, and-both}
 use Rattle.maths.proofs.Tests.{zero-is, zero-true, zero-false, not-zero, unit-true, unit-is, all-at, all-of, all-not, all-false}
+use Rattle.maths.proofs.Dots.{dot-more}
 use Rattle.rules.specs.Complex.{Layer, Chain}
 use Rattle.rules.specs.Good.{times, OneEach, oneEach, allZero, closes}
 use Rattle.rules.specs.Operators.{proper}
+use Rattle.rules.proofs.Frame.{Within}
 
 module _ (v : Chain) where
   pub one-each-true : oneEach v ≡ true → OneEach v
@@ -29,10 +31,6 @@ module _ (v : Chain) where
   pub all-zero-at : allZero v ≡ true → (i : ℕ) → i < 96 → v i ≡ pos 0
   unfolding allZero
   all-zero-at e i h = zero-true (all-at 96 (λ i. isZero (v i)) e i h)
-
-  pub all-zero-is : ((i : ℕ) → i < 96 → v i ≡ pos 0) → allZero v ≡ true
-  unfolding allZero
-  all-zero-is z = all-of 96 (λ i h. rw (z i h) zero-is)
 
   pub some-face : allZero v ≡ false → (i : ℕ) × (i < 96) × (v i ≢ pos 0)
   unfolding allZero
@@ -54,10 +52,15 @@ module _ (v : Chain) where
   unfolding proper
   proper-is u i h n = and-both (all-of 96 (λ i h. unit-is (v i) (u i h))) (ap not (has-face i h n))
 
-  pub closes-at : (rows : ℕ) (A : Layer) → closes rows A v ≡ true → (r : ℕ) → r < rows → dot (A .n) (λ i. A .d r i) (λ i. v i) ≡ pos 0
-  unfolding closes
-  closes-at rows A e r h = zero-true (all-at rows (λ r. isZero (dot (A .n) (λ i. A .d r i) (λ i. v i))) e r h)
+  -- a chain of the cells of A
+  module _ (rows : ℕ) (A : Layer) (few : A .n ≤ 96) (w : Within (A .n) v) where
+    whole-row : (r : ℕ) → dot 96 (λ i. A .d r i) (λ i. v i) ≡ dot (A .n) (λ i. A .d r i) (λ i. v i)
+    whole-row r = dot-more (A .n) 96 _ _ few (λ i l h. rw (w i l) (*ℤ-zero (A .d r i)))
 
-  pub closes-is : (rows : ℕ) (A : Layer) → ((r : ℕ) → r < rows → dot (A .n) (λ i. A .d r i) (λ i. v i) ≡ pos 0) → closes rows A v ≡ true
-  unfolding closes
-  closes-is rows A z = all-of rows (λ r h. rw (z r h) zero-is)
+    pub closes-at : closes rows A v ≡ true → (r : ℕ) → r < rows → dot 96 (λ i. A .d r i) (λ i. v i) ≡ pos 0
+    unfolding closes
+    closes-at e r h = whole-row r ∙ zero-true (all-at rows (λ r. isZero (dot (A .n) (λ i. A .d r i) (λ i. v i))) e r h)
+
+    pub closes-is : ((r : ℕ) → dot 96 (λ i. A .d r i) (λ i. v i) ≡ pos 0) → closes rows A v ≡ true
+    unfolding closes
+    closes-is z = all-of rows (λ r h. rw (← whole-row r, z r) zero-is)

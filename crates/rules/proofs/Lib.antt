@@ -1,21 +1,27 @@
 -- The table of cases
 pub mod Cases
--- What the tests and the branches of the definitions say
+-- Sequences, layers and columns, and what their tests say
 pub mod Changes
+pub mod Frame
 pub mod Judged
+pub mod Seams
+-- Branches of the definitions, and the numbers of refusals
 pub mod Branches
 pub mod Numbers
+-- What bytes in form say
 pub mod Fields
-pub mod Decoded
+pub mod Listed
 pub mod Faces
+pub mod Decoded
 -- Stored and abstract agree
 pub mod Stored
 pub mod Tested
--- Good is kept, and chains are carried, by each operator
-pub mod Frame
+-- From an accepted operator to what it needs
+pub mod Sides
+pub mod Passed
 pub mod Allowed
 pub mod Accepted
-pub mod Edited
+-- Each operator: the layers still fit, and chains are carried
 pub mod Fitted
 pub mod Carries
 pub mod Makes
@@ -23,33 +29,33 @@ pub mod Kills
 pub mod Splits
 pub mod Merges
 pub mod Flips
-pub mod Seams
-pub mod MadeCells
-pub mod KilledCells
+-- Each operator: every column is still one of its dimension, so good is kept
+pub mod Columns
+pub mod MakeCells
+pub mod KillCells
 pub mod SplitCells
+pub mod MergeCells
+pub mod FlipCells
+-- All operators, and scripts: good is kept, the Euler number moves by the table, chains are carried
 pub mod Eulers
 pub mod Steps
--- by scripts
 pub mod Runs
 pub mod CarriedRuns
 -- Merge undoes split
-pub mod Undone
-pub mod Merged
+pub mod MergeSplit
 pub mod Undo
 -- Reading and writing undo each other
 pub mod ReadGood
-pub mod Places
-pub mod Repeats
-pub mod SeamEnds
+pub mod Texts
 pub mod ListsRead
 pub mod CellsRead
-pub mod Begun
+pub mod UpTo
 pub mod ReadWritten
 pub mod ListsWritten
 pub mod CellsWritten
 pub mod WrittenRead
--- Refusals, limits and outcomes of the calls
-pub mod Refused
+-- Limits, refusals and outcomes of the calls
 pub mod Limits
 pub mod ChainCalls
+pub mod Refused
 pub mod Outcomes

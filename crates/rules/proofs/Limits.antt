@@ -17,13 +17,13 @@ use Rattle.maths.proofs.Sizes.{neg-size, dot-size}
 use Rattle.rules.specs.declared.operator.Operator.{Operator}
 use Rattle.rules.specs.Complex.{Complex, Chain}
 use Rattle.rules.specs.Good.{Good}
-use Rattle.rules.specs.Edits.{Step, put, boundary, make, split, negated, flip}
+use Rattle.rules.specs.Edits.{Step, kept, at3, put, boundary, make, split, negated, flip}
 use Rattle.rules.specs.Operators.{Faces, edited}
 use Rattle.rules.specs.Mesh.{pair, eachFace, writeCell, writeSection, writeMesh}
 use Rattle.rules.specs.Chains.{isChain, boundaryLimit, carryStep}
 use Rattle.rules.proofs.Branches.{cond-each}
 use Rattle.rules.proofs.Changes.{at3-each, put-each}
-use Rattle.rules.proofs.Edited.{edits, carry-step}
+use Rattle.rules.proofs.Passed.{edits, carry-step}
 
 -- a chain that a call takes is within its limit
 pub chain-limit : (limit n : ℕ) (c : Chain) → isChain limit n c ≡ true → (i : ℕ) → i < 96 → natAbs (c i) ≤ limit
@@ -53,17 +53,17 @@ pub carried-limit : (X : Complex) {S : ℕ → Step} (o : Operator) (F : Faces) 
     ((i : ℕ) → natAbs (c i) ≤ limit) → (i : ℕ) → natAbs (S d .carried c i) ≤ limit
 unfolding make split flip negated
 carried-limit X o F e limit =
-    edits Keeps X
-    (λ k v. at3-each k _ _ _ _ (λ q A. Kept A) (λ q _ _ _ c s. s) (λ c s. put-small limit _ _ c (omega arith) s) (λ c s. s) (λ c s. s))
-    (λ m t p. at3-each m _ _ _ _ (λ q A. Kept A) (λ q _ _ _ c s. s) (λ c s. put-small limit _ _ c (omega arith) s) (λ c s. put-small limit _ _ c (s t) s) (λ c s. s))
-    (λ k x. at3-each k _ _ _ _ (λ q A. Kept A) (λ q _ _ _ c s. s) (λ c s. put-small limit _ _ c (rw neg-size (s x)) s) (λ c s. s) (λ c s. s))
+    edits (λ S. (d : ℕ) → Stays (S d)) X
+    (λ k v. stay k _ _ _ (λ c s. put-small limit _ _ c (omega arith) s) (λ c s. s) (λ c s. s))
+    (λ m t p. stay m _ _ _ (λ c s. put-small limit _ _ c (omega arith) s) (λ c s. put-small limit _ _ c (s t) s) (λ c s. s))
+    (λ k x. stay k _ _ _ (λ c s. put-small limit _ _ c (rw neg-size (s x)) s) (λ c s. s) (λ c s. s))
     o F (carry-step o F X e)
   where
-    Kept : Step → Type 0
-    Kept A = (c : Chain) → Small limit c → Small limit (A .carried c)
+    Stays : Step → Type 0
+    Stays A = (c : Chain) → Small limit c → Small limit (A .carried c)
 
-    Keeps : (ℕ → Step) → Type 0
-    Keeps S = (d : ℕ) → Kept (S d)
+    stay : (k : ℕ) (x y z : Step) → Stays x → Stays y → Stays z → (q : ℕ) → Stays (at3 k (λ q. kept (X q)) x y z q)
+    stay k x y z = at3-each k (λ q. kept (X q)) x y z (λ q A. Stays A) (λ q _ _ _ c s. s)
 
 -- "At most 37,252 bytes."
 face-length : (v : Chain) → length (eachFace pair v) ≤ 192

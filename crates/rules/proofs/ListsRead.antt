@@ -20,8 +20,9 @@ use Rattle.rules.specs.Complex.{Chain}
 use Rattle.rules.specs.Form.{afterEntry, entryAt, signOf}
 use Rattle.rules.specs.Mesh.{pair}
 use Rattle.rules.proofs.Fields.{byte-got}
-use Rattle.rules.proofs.Places.{Text, ends, text-none, Two, two, divided}
-use Rattle.rules.proofs.Repeats.{repeat-last}
+use Rattle.rules.proofs.Listed.{IsSign}
+use Rattle.rules.proofs.Texts.{Text, ends, text-none, Two, two, divided}
+use Rattle.maths.proofs.Repeat.{repeat-last}
 
 -- the number of faces below n, and their text
 abbrev pub faceCount : Chain → ℕ → ℕ
@@ -30,13 +31,20 @@ faceCount v n = count n (λ i. not (isZero (v i)))
 abbrev pub faceText : Chain → ℕ → List ℕ
 faceText v n = join n (λ i. cond (isZero (v i)) [] (pair i (v i)))
 
+-- number and sign of entry l of the list at `at`
+abbrev pub numberAt : List ℕ → ℕ → ℕ → ℕ
+numberAt s at l = getD s (at + 1 + 2 * l) 0
+
+abbrev pub signAt : List ℕ → ℕ → ℕ → ℕ
+signAt s at l = getD s (at + 2 + 2 * l) 0
+
 -- an entry, as a loop over entries reads it: the place and the least number
 abbrev readEntry : List ℕ → ℕ × ℕ → (ℕ × ℕ → Field) → Field
 readEntry s x go = afterEntry (entryAt true s (x .0) (x .1)) Field.Bad λ low next. go (next, low)
 
 -- the coefficient of face i that the first n entries of the list at `at` have
 abbrev listedAt : List ℕ → ℕ → ℕ → ℕ → ℤ
-listedAt s at n i = sum n (λ l. signOf (getD s (at + 2 + 2 * l) 0) *ℤ δ (getD s (at + 1 + 2 * l) 0) i)
+listedAt s at n i = sum n (λ l. signOf (signAt s at l) *ℤ δ (numberAt s at l) i)
 
 -- what is read of the list at `at`, up to `next`: the faces of v below n
 pub record Below (s : List ℕ) (at : ℕ) (v : Chain) (n next : ℕ) : Type 0 where
@@ -44,23 +52,22 @@ pub record Below (s : List ℕ) (at : ℕ) (v : Chain) (n next : ℕ) : Type 0 w
   pub least : low ≤ n
   pub place : next ≡ at + 1 + 2 * faceCount v n
   pub read : (done : ℕ × ℕ → Field) → repeat (readEntry s) done (faceCount v n) (at + 1, 0) ≡ done (next, low)
-  pub each : (l : ℕ) → l < faceCount v n → v (getD s (at + 1 + 2 * l) 0) ≢ pos 0
+  pub each : (l : ℕ) → l < faceCount v n → v (numberAt s at l) ≢ pos 0
   pub has : (i : ℕ) → i < n → listedAt s at (faceCount v n) i ≡ v i
   pub rest : (i : ℕ) → n ≤ i → listedAt s at (faceCount v n) i ≡ pos 0
 
 -- the byte of a sign
 record Sign (z : ℤ) (b : ℕ) : Type 0 where
-  least : 1 ≤ b
-  most : b ≤ 2
+  form : IsSign b
   is : signOf b ≡ z
 
 sign-of : (z : ℤ) → natAbs z ≤ 1 → z ≢ pos 0 → Sign z (cond (eqZ z (pos 1)) 1 2)
 unfolding eqZ
 sign-of =
     by-sign (λ z. z ≢ pos 0 → Sign z (cond (eqZ z (pos 1)) 1 2))
-    (λ n. record { least = omega arith; most = omega arith; is = refl })
+    (λ n. record { form = (omega arith, omega arith); is = refl })
     (λ n. absurd (n refl))
-    (λ n. record { least = omega arith; most = omega arith; is = refl })
+    (λ n. record { form = (omega arith, omega arith); is = refl })
 
 module _ {s : List ℕ} where
   entry-read : {at next x b : ℕ} {z : ℤ} (low : ℕ) → Two s at x b next → Sign z b → low ≤ x → x ≤ 255 → entryAt true s at low ≡ EntryForm.Entry (x + 1) next
@@ -68,14 +75,22 @@ module _ {s : List ℕ} where
   entry-read {at} {next} {x} {b} low t g l m =
       rw (
         byte-got s at low 255 x (record { there = omega arith; is = sym (t .one); least = l; most = m }),
-        byte-got s (at + 1) 1 2 b (record { there = t .there; is = sym (t .other); least = g .least; most = g .most }),
+        byte-got s (at + 1) 1 2 b (record { there = t .there; is = sym (t .other); least = g .form .0; most = g .form .1 }),
         t .place,
       )
 
 module _ {s : List ℕ} {at : ℕ} {v : Chain} where
   none-below : Below s at v 0 (at + 1)
   unfolding count sum repeat
-  none-below = record { low = 0; least = omega arith; place = omega arith; read = λ done. refl; each = λ l h. absurd (omega arith); has = λ i h. absurd (omega arith); rest = λ i h. refl }
+  none-below = record {
+    low = 0;
+    least = omega arith;
+    place = omega arith;
+    read = λ done. refl;
+    each = λ l h. absurd (omega arith);
+    has = λ i h. absurd (omega arith);
+    rest = λ i h. refl;
+  }
 
   -- one number more, which is no face
   no-face : {n next : ℕ} → isZero (v n) ≡ true → Below s at v n next → Below s at v (suc n) next

@@ -14,21 +14,16 @@ use Rattle.maths.proofs.Cases.{eq-or, lt-or}
 use Rattle.maths.proofs.Tests.{zero-is, not-zero}
 use Rattle.rules.specs.Complex.{Chain}
 use Rattle.rules.specs.Form.{signOf}
-use Rattle.rules.proofs.Places.{Text, ends, Two, two-text, joined}
-use Rattle.rules.proofs.ListsRead.{faceCount, faceText}
-
--- number and sign of entry l of the list at `at`
-abbrev numberAt : List ℕ → ℕ → ℕ → ℕ
-numberAt s at l = getD s (at + 1 + 2 * l) 0
-
-abbrev signAt : List ℕ → ℕ → ℕ → ℕ
-signAt s at l = getD s (at + 2 + 2 * l) 0
+use Rattle.rules.proofs.Seams.{minus-not-zero, one-not-zero}
+use Rattle.rules.proofs.Listed.{IsSign}
+use Rattle.rules.proofs.Texts.{Text, ends, Two, two-text, joined}
+use Rattle.rules.proofs.ListsRead.{faceCount, faceText, numberAt, signAt}
 
 -- v is the chain of the N entries of the list at `at`
 pub record Shown (s : List ℕ) (at N : ℕ) (v : Chain) : Type 0 where
   pub inside : at + 1 + 2 * N ≤ length s
   pub rising : (l l' : ℕ) → l < l' → l' < N → numberAt s at l < numberAt s at l'
-  pub signs : (l : ℕ) → l < N → (1 ≤ signAt s at l) × (signAt s at l ≤ 2)
+  pub signs : (l : ℕ) → l < N → IsSign (signAt s at l)
   pub below : (l : ℕ) → l < N → numberAt s at l < 96
   pub has : (l : ℕ) → l < N → v (numberAt s at l) ≡ signOf (signAt s at l)
   pub rest : (i : ℕ) → ((l : ℕ) → l < N → numberAt s at l ≢ i) → v i ≡ pos 0
@@ -41,11 +36,12 @@ record Written (s : List ℕ) (at N : ℕ) (v : Chain) (n c : ℕ) : Type 0 wher
   done : (l : ℕ) → l < c → numberAt s at l < n
   left : (l : ℕ) → c ≤ l → l < N → n ≤ numberAt s at l
 
-signed : (b : ℕ) → 1 ≤ b → b ≤ 2 → (signOf b ≢ pos 0) × (cond (eqZ (signOf b) (pos 1)) 1 2 ≡ b)
+-- the byte of a sign is written as it was read
+sign-back : (b : ℕ) → IsSign b → (signOf b ≢ pos 0) × (cond (eqZ (signOf b) (pos 1)) 1 2 ≡ b)
 unfolding eqZ
-signed b l h = eq-or b 1
-    (λ e. rw e ((λ q. let z : _≡_ {A = ℕ} 0 1 = cc in omega arith), refl))
-    (λ n. let e : b ≡ 2 = omega arith in rw e ((λ q. let z : _≡_ {A = ℕ} 0 1 = cc in omega arith), refl))
+sign-back b h = eq-or b 1
+    (λ e. rw e (one-not-zero refl, refl))
+    (λ n. let e : b ≡ 2 = omega (arith, h .0, h .1) in rw e (minus-not-zero refl, refl))
 
 module _ {s : List ℕ} {at N : ℕ} {v : Chain} (S : Shown s at N v) where
   none-written : Written s at N v 0 0
@@ -59,9 +55,9 @@ module _ {s : List ℕ} {at N : ℕ} {v : Chain} (S : Shown s at N v) where
   }
 
   -- a number that is not listed
-  passed : {n c : ℕ} → ((l : ℕ) → l < N → numberAt s at l ≢ n) → Written s at N v n c → Written s at N v (suc n) c
+  skipped : {n c : ℕ} → ((l : ℕ) → l < N → numberAt s at l ≢ n) → Written s at N v n c → Written s at N v (suc n) c
   unfolding count join
-  passed {n} {c} off w =
+  skipped {n} {c} off w =
       let z = S .rest n off in
       record {
         most = w .most;
@@ -75,9 +71,8 @@ module _ {s : List ℕ} {at N : ℕ} {v : Chain} (S : Shown s at N v) where
   entered : {n c : ℕ} → c < N → numberAt s at c ≡ n → Written s at N v n c → Written s at N v (suc n) (suc c)
   unfolding count join
   entered {n} {c} h e w =
-      let b = S .signs c h in
       let q : v n ≡ signOf (signAt s at c) = rw (← e) (S .has c h) in
-      let g = signed (signAt s at c) (b .0) (b .1) in
+      let g = sign-back (signAt s at c) (S .signs c h) in
       let p : at + 1 + 2 * c + 1 ≡ at + 2 + 2 * c = omega arith in
       let t : Two s (at + 1 + 2 * c) n (signAt s at c) (at + 1 + 2 * suc c) =
       record { there = omega (arith, S .inside); one = e; other = ap (λ p. getD s p 0) p; place = omega arith } in
@@ -98,8 +93,8 @@ module _ {s : List ℕ} {at N : ℕ} {v : Chain} (S : Shown s at N v) where
 
   turn : {n c : ℕ} → Written s at N v n c → (c' : ℕ) × Written s at N v (suc n) c'
   turn {n} {c} w = lt-or c N
-      (λ h. eq-or (numberAt s at c) n (λ e. (suc c, entered h e w)) (λ e. (c, passed (unlisted (λ _. e) w) w)))
-      (λ h. (c, passed (unlisted (λ l. absurd (omega arith)) w) w))
+      (λ h. eq-or (numberAt s at c) n (λ e. (suc c, entered h e w)) (λ e. (c, skipped (unlisted (λ _. e) w) w)))
+      (λ h. (c, skipped (unlisted (λ l. absurd (omega arith)) w) w))
 
   written : (n : ℕ) → (c : ℕ) × Written s at N v n c
   written zero = (0, none-written)

@@ -10,7 +10,7 @@ use Rattle.maths.proofs.Sums.{δ-no}
 use Rattle.maths.proofs.Dots.{dot-+l, dot-+r, dot-*l, dot-*r, dot-δ-l, dot-0-l}
 use Rattle.rules.specs.Complex.{Layer, Complex, Chain}
 use Rattle.rules.specs.Edits.{Step, kept, layers, put, boundary, make}
-use Rattle.rules.proofs.Changes.{put-is, put-zero}
+use Rattle.rules.proofs.Changes.{at3-0, at3-each, put-is, put-zero}
 use Rattle.rules.proofs.Frame.{Within, Fit, Frame, columns-at}
 use Rattle.rules.proofs.Allowed.{CanMake}
 use Rattle.rules.proofs.Fitted.{fitted-layers}
@@ -60,6 +60,16 @@ module _ (v : Chain) (A : Layer) (columns : (i j : ℕ) → A .n ≤ j → A .d 
   added-maps-above : (B : Layer) → Fit A B → Maps (added v A) B (kept B)
   unfolding boundary
   added-maps-above B F c w r = rw (put-zero (A .n) (boundary B c) (dot-0-l 96 _ (λ j l. F .rows (A .n) j (omega arith))))
+
+-- the layers after a cell is made
+module _ (k : ℕ) (v : Chain) (X : Complex) where
+  pub make-here : layers (make k v X) k ≡ record { n = suc (X k .n); d = λ i. put (X k .n) (v i) (X k .d i) }
+  unfolding make
+  make-here = ap (λ S. S .layer) (at3-0 k (λ q. kept (X q)) _ _ _)
+
+  pub make-other : (q : ℕ) → q ≢ k → layers (make k v X) q ≡ X q
+  unfolding make
+  make-other = at3-each k (λ q. kept (X q)) _ _ _ (λ q S. q ≢ k → S .layer ≡ X q) (λ q _ _ _ _. refl) (λ n. absurd (n refl)) (λ _. refl) (λ _. refl)
 
 module _ {k : ℕ} {v : Chain} {X : Complex} (F : Frame X) (C : CanMake k v X) where
   pub make-frame : Frame (layers (make k v X))

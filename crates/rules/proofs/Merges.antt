@@ -12,9 +12,9 @@ use Rattle.maths.proofs.Dots.{dot-same, dot-+l, dot-+r, dot-*l, dot-*r, dot-neg
 use Rattle.rules.specs.Complex.{Layer, Complex}
 use Rattle.rules.specs.Edits.{withoutColumn, withoutRow, merged, merge}
 use Rattle.rules.proofs.Changes.{put-same, put-no}
-use Rattle.rules.proofs.Frame.{Fit, Frame, few-at, columns-at}
+use Rattle.rules.proofs.Frame.{same-layer, Fit, Frame, few-at, columns-at}
 use Rattle.rules.proofs.Allowed.{CanMerge}
-use Rattle.rules.proofs.Fitted.{same-layer, fitted}
+use Rattle.rules.proofs.Fitted.{fitted}
 use Rattle.rules.proofs.Kills.{without-few, without-ground, fit-without-column, fit-without-row}
 
 -- the new layer is the old one without row t and column b, and a column times a row
@@ -27,23 +27,27 @@ merged-is t a b D l = same-layer refl λ i j. eq-or j a
 module _ {k t a b : ℕ} {X : Complex} (F : Frame X) (C : CanMerge k t a b X) where
   -- the row of t
   row-t : (j : ℕ) → X (suc k) .d t j ≡ X (suc k) .d t a *ℤ (δ a j -ℤ δ b j)
-  row-t j = eq-or j a
-      (λ e. let n : a ≢ b = omega (arith, C .less) in rw e (simp (δ-same, δ-no, ints)))
-      (λ e. eq-or j b
-      (λ f. let n : b ≢ a = omega (arith, C .less) in rw f (simp (δ-same, δ-no, C .opposite, ints)))
-      (λ f. simp (δ-no, C .only, ints)))
+  row-t j =
+      let ab : a ≢ b = omega (arith, C .less) in
+      let ba : b ≢ a = omega (arith, C .less) in
+      eq-or j a (λ e. rw e (simp (δ-same, δ-no, ints))) λ e.
+      eq-or j b (λ f. rw f (simp (δ-same, δ-no, C .opposite, ints))) λ f.
+      simp (δ-no, C .only, ints)
 
-  -- the rows of a and b above are the same
-  same-rows : (j : ℕ) → X (suc (suc k)) .d a j ≡ X (suc (suc k)) .d b j
-  same-rows j =
-      let p = X (suc k) .d t a in
-      let U = X (suc (suc k)) .d in
+  -- the boundary of a boundary is 0 at t
+  null-t : (j : ℕ) → X (suc k) .d t a *ℤ (X (suc (suc k)) .d a j -ℤ X (suc (suc k)) .d b j) ≡ pos 0
+  null-t j =
       let few : X (suc k) .n ≤ 96 = few-at F (suc k) in
       let la : a < 96 = omega (arith, C .less, C .high) in
       let lb : b < 96 = omega (arith, C .high) in
-      let h : p *ℤ (U a j -ℤ U b j) ≡ pos 0 =
-      sym (simp (dot-*l, dot-+l, dot-neg-l, dot-δ-l) at (dot-same 96 {y = λ i. U i j} (λ i _. row-t i) (λ i _. refl))) ∙ F .fit (suc k) .null t j in
-      neg-unique (U a j) (negℤ (U b j)) (sym (one-*ℤ _) ∙ rw (← (C .unit), *ℤ-assoc, h, *ℤ-zero)) ∙ negℤ-negℤ (U b j)
+      sym (simp (dot-*l, dot-+l, dot-neg-l, dot-δ-l) at (dot-same 96 {y = λ i. X (suc (suc k)) .d i j} (λ i _. row-t i) (λ i _. refl)))
+      ∙ F .fit (suc k) .null t j
+
+  -- so the rows of a and b above are the same
+  pub same-rows : (j : ℕ) → X (suc (suc k)) .d a j ≡ X (suc (suc k)) .d b j
+  same-rows j =
+      let U = X (suc (suc k)) .d in
+      neg-unique (U a j) (negℤ (U b j)) (sym (one-*ℤ _) ∙ rw (← (C .unit), *ℤ-assoc, null-t, *ℤ-zero)) ∙ negℤ-negℤ (U b j)
 
   -- the row of t in the sum of both columns
   sum-t : (j : ℕ) → X (suc k) .d t (up b j) +ℤ X (suc k) .d t b *ℤ δ a j ≡ pos 0

@@ -1,12 +1,11 @@
 -- 0 means accepted: no refusal has the number 0.
-use mathlib.Core.Path.{_≡_}
+use mathlib.Core.Path.{_≡_, sym}
 use mathlib.Core.Logic.{_≢_}
-use mathlib.Core.Bool.{Bool, not, _&&_}
+use mathlib.Core.Bool.{Bool, _&&_}
 use Prim.Native.Nat.{ℕ, suc, pred, _<_}
 use native.Mathlib.Omega.{arith}
 use lib.Dec.{ltb}
 use lib.IntN.{_+ℤ_}
-use Rattle.maths.specs.Tests.{isZero, last}
 use Rattle.rules.specs.declared.form.Fault.{Fault}
 use Rattle.rules.specs.declared.operator.Operator.{Operator}
 use Rattle.rules.specs.declared.operator.Operator.the-variants.{Make, Kill, Split, Merge, Flip}
@@ -14,10 +13,12 @@ use Rattle.rules.specs.Refusals.{accepted}
 use Rattle.rules.specs.Complex.{Complex, Chain}
 use Rattle.rules.specs.Good.{oneEach, allZero}
 use Rattle.rules.specs.Edits.{Step, boundary, part}
-use Rattle.rules.specs.Operators.{Faces, Outcome, refused, edited, removed, chainOf, allBelow, closed, chosen, isPart, proper, divides, makeStep, killStep, splitStep, mergeStep, flipStep, step}
+use Rattle.rules.specs.Operators.{Faces, Outcome, refused, edited, removed, unless, chainOf, allBelow, closed, chosen, isPart, proper, divides}
+use Rattle.rules.specs.Operators.{makeStep, killStep, splitStep, mergeStep, flipStep, step}
 use Rattle.rules.specs.Form.{faultNumber}
 use Rattle.rules.specs.Chains.{carryStep}
-use Rattle.rules.proofs.Branches.{cond-each}
+use Rattle.rules.proofs.Branches.{cond-each, refused-edited, refused-removed}
+use Rattle.rules.proofs.Sides.{lower, higher}
 
 -- a refusal's number is not 0
 abbrev Numbered : Outcome → Type 0
@@ -27,12 +28,12 @@ by-number : {q : ℕ} → 0 < q → Numbered (refused q)
 by-number {q} h r e z = let same : q ≡ r = cc in omega arith
 
 by-edit : {S : ℕ → Step} → Numbered (edited S)
-by-edit r e z = let no : _≡_ {A = ℕ} 0 1 = cc in omega arith
+by-edit r e z = refused-edited r (sym e)
 
 by-removal : {Y : Complex} → Numbered (removed Y)
-by-removal r e z = let no : _≡_ {A = ℕ} 0 1 = cc in omega arith
+by-removal r e z = refused-removed r (sym e)
 
-guard : (t : Bool) {o : Outcome} {q : ℕ} → 0 < q → Numbered o → Numbered (Rattle.rules.specs.Operators.unless t q o)
+guard : (t : Bool) {o : Outcome} {q : ℕ} → 0 < q → Numbered o → Numbered (unless t q o)
 guard t h n = cond-each Numbered t (λ e. n) (λ e. by-number h)
 
 module _ (F : Faces) (X : Complex) where
@@ -50,10 +51,9 @@ module _ (F : Faces) (X : Complex) where
       (guard (ltb (X m .n) 96 && ltb (X k .n) 96) (omega arith)
       (guard (isPart p v) (omega arith) (guard (divides m (boundary (X m) (part p v))) (omega arith) by-edit)))
   step-numbered (Merge k t) =
-      let D = X (suc k) .d in
-      let b = last 96 (λ j. not (isZero (D t j))) in
-      let a = last b (λ j. not (isZero (D t j))) in
-      guard (ltb t (X k .n)) (omega arith) (guard (oneEach (λ j. D t j)) (omega arith) (guard (proper (λ i. D i a +ℤ D i b)) (omega arith) by-removal))
+      let v : Chain = λ j. X (suc k) .d t j in
+      guard (ltb t (X k .n)) (omega arith)
+      (guard (oneEach v) (omega arith) (guard (proper (λ i. X (suc k) .d i (lower v) +ℤ X (suc k) .d i (higher v))) (omega arith) by-removal))
   step-numbered (Flip k c) = guard (ltb c (X k .n)) (omega arith) by-edit
 
   pub carry-numbered : (o : Operator) → Numbered (carryStep o F X)

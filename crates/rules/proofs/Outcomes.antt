@@ -1,4 +1,4 @@
--- One outcome.
+-- Any two outcomes that a statement permits are equal.
 use mathlib.Core.Path.{_≡_, sym, _∙_}
 
 -- Each call's statement says that its outcome, the answer with every lent list at exit, is the one that the definition gives for the lists at entry. So any two outcomes

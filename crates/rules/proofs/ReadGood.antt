@@ -47,9 +47,13 @@ corners-good n h = record {
     top zero l = absurd (omega arith)
     top (suc k) l = refl
 
+-- .. if what was read before is
+abbrev FromGood : (Place → Reading) → Type 0
+FromGood go = (x : Place) → Good (x .0) → IfTaken (go x)
+
 module _ (s : List ℕ) where
   -- cells of dimension k, and what follows them
-  cells-good : (k : ℕ) → k ≤ 3 → (go : Place → Reading) → ((x : Place) → Good (x .0) → IfTaken (go x)) → (n : ℕ) (x : Place) → Good (x .0) → IfTaken (repeat (readCell s k) go n x)
+  cells-good : (k : ℕ) → k ≤ 3 → (go : Place → Reading) → FromGood go → (n : ℕ) → FromGood (repeat (readCell s k) go n)
   unfolding repeat readCell
   cells-good k d go then zero x G = then x G
   cells-good k d go then (suc n) x G =
@@ -59,7 +63,7 @@ module _ (s : List ℕ) where
       (λ S q. cells-good k d go then n _ (edit-kept G s o F q .kept .good))
       (λ Y q. cells-good k d go then n _ (removal-kept G s o F q .good))
 
-  section-good : (k : ℕ) → k ≤ 3 → (go : Place → Reading) → ((x : Place) → Good (x .0) → IfTaken (go x)) → (x : Place) → Good (x .0) → IfTaken (readSection s k x go)
+  section-good : (k : ℕ) → k ≤ 3 → (go : Place → Reading) → FromGood go → FromGood (λ x. readSection s k x go)
   unfolding readSection
   section-good k d go then x G = after-each IfTaken (byteAt s (x .1) 0 96) (λ f. tt) (λ n e. cells-good k d go then n _ G)
 

@@ -10,10 +10,10 @@ use Rattle.rules.specs.Complex.{Complex}
 use Rattle.rules.specs.Good.{Good}
 use Rattle.rules.specs.Mesh.{Reading, taken, Place, readCell, readSection, readMesh, writeCell, writeSection, writeMesh}
 use Rattle.rules.proofs.Fields.{byte-got}
-use Rattle.rules.proofs.Places.{Text, ends, byte, whole, divided}
-use Rattle.rules.proofs.Repeats.{repeat-last}
+use Rattle.rules.proofs.Texts.{Text, ends, byte, whole, divided}
+use Rattle.maths.proofs.Repeat.{repeat-last}
 use Rattle.rules.proofs.CellsRead.{cell-taken}
-use Rattle.rules.proofs.Begun.{upTo, up-to-few, up-to-more, up-to-next, up-to-corners, up-to-all, next-can}
+use Rattle.rules.proofs.UpTo.{upTo, up-to-few, up-to-more, up-to-next, up-to-corners, up-to-all, next-can}
 
 module _ {X : Complex} (G : Good X) {s : List ℕ} where
   -- the first j cells of a section

@@ -13,15 +13,14 @@ use Rattle.rules.specs.declared.answers.EulerNumber.{EulerNumber}
 use Rattle.rules.specs.declared.answers.Applied.{Applied}
 use Rattle.rules.specs.declared.answers.ScriptRun.{ScriptRun}
 use Rattle.rules.specs.Refusals.{accepted, wrongLength, notGood, shortOutput}
-use Rattle.rules.specs.Complex.{Pattern, Chain, complex, empty, countsOf, stored}
+use Rattle.rules.specs.Complex.{Pattern, complex, empty, countsOf, stored}
 use Rattle.rules.specs.Good.{isGood}
-use Rattle.rules.specs.Edits.{boundary}
 use Rattle.rules.specs.Operators.{step}
-use Rattle.rules.specs.Form.{within, loneOperator, facesOf, faultNumber}
+use Rattle.rules.specs.Form.{loneOperator, facesOf, faultNumber}
 use Rattle.rules.specs.Mesh.{readMesh, writeMesh}
-use Rattle.rules.specs.Chains.{isChain, boundaryLimit, carryLimit, carryStep}
-use Rattle.rules.specs.Calls.{Lent, lent, sized, sizedChain, sizedScript, readCall, Wrote, writeCall, eulerCall, applyCall, runCall, Given, coefficients, onChain, boundaryCall, carryCall}
-use Rattle.rules.proofs.Branches.{cond-each, operator-each, step-each, carry-each, reading-each, good-each}
+use Rattle.rules.specs.Calls.{Lent, lent, sized, sizedScript, readCall, Wrote, writeCall, eulerCall, applyCall, runCall, boundaryCall, carryCall}
+use Rattle.rules.proofs.Branches.{cond-each, operator-each, step-each, reading-each, good-each}
+use Rattle.rules.proofs.ChainCalls.{boundary-call-each, carry-call-each}
 
 -- the matrices at exit are those of p
 pub record Unchanged {A : Type 0} (p : Pattern) (l : Lent A) : Type 0 where
@@ -97,25 +96,8 @@ euler-refused p =
     good-each (λ (e : EulerNumber). e .refusal ≢ accepted → e .number ≡ pos 0) (sized p) (isGood (complex p)) (λ l g n. absurd (n refl)) (λ n. refl) (λ n. refl)
 
 -- "A refused chain call leaves its output unchanged"
-abbrev Left : List ℤ → Given → Type 0
-Left out g = g .refusal ≢ accepted → g .out ≡ out
-
-left-chain : (limit n : ℕ) (c out : List ℤ) (f : Chain → Chain) → Left out (onChain limit n c (λ r. record { refusal = r; out = out }) f)
-left-chain limit n c out f = cond-each (Left out) (isChain limit n (coefficients c)) (λ t n. absurd (n refl)) (λ t n. refl)
-
 pub boundary-refused : (p : Pattern) (d : ℕ) (c out : List ℤ) → boundaryCall p d c out .refusal ≢ accepted → boundaryCall p d c out .out ≡ out
-unfolding boundaryCall
-boundary-refused p d c out =
-    good-each (Left out) (sized p && sizedChain c && sizedChain out) (isGood (complex p))
-    (λ l g. cond-each (Left out) (within 1 3 d) (λ t. left-chain boundaryLimit (complex p d .n) c out (boundary (complex p d))) (λ t n. refl))
-    (λ n. refl) (λ n. refl)
+boundary-refused p d c out = boundary-call-each (λ g. g .refusal ≢ accepted → g .out ≡ out) p d c out (λ r _ n. refl) (λ g w n. absurd (n refl))
 
 pub carry-refused : (p : Pattern) (s : List ℕ) (d : ℕ) (c out : List ℤ) → carryCall p s d c out .refusal ≢ accepted → carryCall p s d c out .out ≡ out
-unfolding carryCall
-carry-refused p s d c out =
-    good-each (Left out) (sized p && sizedChain c && sizedChain out) (isGood (complex p))
-    (λ l g. cond-each (Left out) (within 0 3 d)
-    (λ t. operator-each (Left out) (loneOperator s) (λ f n. refl) λ o next e.
-    carry-each (Left out) (carryStep o (facesOf s o) (complex p)) (λ r q n. refl) (λ n. refl) (λ S q. left-chain carryLimit (complex p d .n) c out (S d .carried)))
-    (λ t n. refl))
-    (λ n. refl) (λ n. refl)
+carry-refused p s d c out = carry-call-each (λ g. g .refusal ≢ accepted → g .out ≡ out) p d c out (λ r _ n. refl) s (λ l o S q w n. absurd (n refl))

@@ -1,28 +1,24 @@
--- After a split every column is still one of its dimension.
+-- After split every column is still one of its dimension, so the pattern is good.
 use mathlib.Core.Path.{_≡_, refl, sym, _∙_, ap, fun-ext}
 use mathlib.Core.Logic.{_≢_}
-use mathlib.Core.Bool.{Bool, true, false, cond}
+use mathlib.Core.Bool.{Bool, true, false}
 use Prim.Native.Nat.{ℕ, zero, suc, _<_, _≤_}
 use native.Mathlib.Omega.{arith}
-use lib.IntN.{ℤ, pos, negsuc, natAbs}
+use lib.IntN.{pos, negsuc, natAbs, _+ℤ_}
 use borrow.Author.Tests.{ne-eqb}
-use Rattle.maths.specs.Tables.{Entries}
 use Rattle.maths.specs.Tests.{eqZ}
-use Rattle.maths.proofs.Cases.{eqb-same, eq-or, lt-or, by-bool, and-left, and-right, no-eq}
-use Rattle.maths.proofs.Dots.{dot-0-l}
+use Rattle.maths.proofs.Cases.{eqb-same, eq-or, lt-or, and-left, and-right, no-eq}
 use Rattle.rules.specs.Complex.{Layer, Complex, Chain}
 use Rattle.rules.specs.Good.{Good}
-use Rattle.rules.specs.Edits.{kept, layers, put, boundary, part, rest, divider, halves, repeated, split}
+use Rattle.rules.specs.Edits.{layers, put, boundary, part, rest, divider, halves, repeated, split}
 use Rattle.rules.specs.Operators.{proper, divides}
-use Rattle.rules.proofs.Changes.{at3-each, put-same, put-no, put-each}
+use Rattle.rules.proofs.Changes.{put-same, put-no, put-each, part-each, rest-each, rest-part}
 use Rattle.rules.proofs.Judged.{one-each-true, proper-units, proper-face}
-use Rattle.rules.proofs.Frame.{Within, Cells}
+use Rattle.rules.proofs.Frame.{Within, same-layer, Cells, frame-of, good-of, within-rows}
 use Rattle.rules.proofs.Allowed.{CanSplit}
-use Rattle.rules.proofs.Seams.{Ends, ends-of, minus-not-zero, one-not-zero, Bounds, Sound, cells-from, within-rows, sound-at, put-column, put-row}
-
-boundary-0 : (A : Layer) (c : Chain) (r : ℕ) → ((j : ℕ) → A .d r j ≡ pos 0) → boundary A c r ≡ pos 0
-unfolding boundary
-boundary-0 A c r h = dot-0-l 96 (λ j. c j) (λ j _. h j)
+use Rattle.rules.proofs.Seams.{Ends, minus-not-zero, one-not-zero, ends-of}
+use Rattle.rules.proofs.Columns.{Bounds, Sound, sound-at, cells-layers, put-column, put-row}
+use Rattle.rules.proofs.Splits.{boundary-0, split-frame}
 
 -- a boundary that divides is that of a cell
 module _ {X : Complex} (G : Good X) where
@@ -47,16 +43,6 @@ module _ {X : Complex} (G : Good X) where
   }
   boundary-bounds (suc (suc m)) c e = record { seam = λ l. absurd (omega arith); some = λ _. let f = proper-face _ e in (f .0, f .2) }
 
--- by cases on whether i is chosen
-module _ (p : ℕ → Bool) (v : Chain) where
-  part-of : (P : ℤ → Type 0) (i : ℕ) → (p i ≡ true → P (v i)) → (p i ≡ false → P (pos 0)) → P (part p v i)
-  unfolding part
-  part-of P i = by-bool (p i) (λ t. P (cond t (v i) (pos 0)))
-
-  rest-of : (P : ℤ → Type 0) (i : ℕ) → (p i ≡ true → P (pos 0)) → (p i ≡ false → P (v i)) → P (rest p v i)
-  unfolding rest
-  rest-of P i = by-bool (p i) (λ t. P (cond t (pos 0) (v i)))
-
 -- a seam v divided at the new corner t, its head chosen
 module _ {p : ℕ → Bool} {v : Chain} {a b t : ℕ} (E : Ends v a b) (is-head : (i : ℕ) → p i ≡ eqZ (v i) (pos 1)) (new : v t ≡ pos 0) (room : t < 96) where
   at-head : p b ≡ true
@@ -79,9 +65,9 @@ module _ {p : ℕ → Bool} {v : Chain} {a b t : ℕ} (E : Ends v a b) (is-head 
     apart = not-tail;
     low = E .low;
     high = room;
-    tail = rw (put-no t _ _ a not-tail) (rest-of p v (λ z. z ≡ negsuc 0) a (λ q. no-eq (sym at-tail ∙ q)) (λ _. E .tail));
+    tail = rw (put-no t _ _ a not-tail) (rest-each p v (λ z. z ≡ negsuc 0) a (λ q. no-eq (sym at-tail ∙ q)) (λ _. E .tail));
     head = put-same t (pos 1) (rest p v);
-    only = λ i e f. rw put-no (rest-of p v (λ z. z ≡ pos 0) i (λ _. refl) (λ q. E .only i e (λ g. no-eq (sym q ∙ ap p g ∙ at-head))));
+    only = λ i e f. rw put-no (rest-each p v (λ z. z ≡ pos 0) i (λ _. refl) (λ q. E .only i e (λ g. no-eq (sym q ∙ ap p g ∙ at-head))));
   }
 
   part-ends : Ends (put t (negsuc 0) (part p v)) t b
@@ -90,8 +76,8 @@ module _ {p : ℕ → Bool} {v : Chain} {a b t : ℕ} (E : Ends v a b) (is-head 
     low = room;
     high = E .high;
     tail = put-same t (negsuc 0) (part p v);
-    head = rw (put-no t _ _ b not-head) (part-of p v (λ z. z ≡ pos 1) b (λ _. E .head) (λ q. no-eq (sym q ∙ at-head)));
-    only = λ i e f. rw put-no (part-of p v (λ z. z ≡ pos 0) i (λ q. E .only i (λ g. no-eq (sym at-tail ∙ ap p (sym g) ∙ q)) f) (λ _. refl));
+    head = rw (put-no t _ _ b not-head) (part-each p v (λ z. z ≡ pos 1) b (λ _. E .head) (λ q. no-eq (sym q ∙ at-head)));
+    only = λ i e f. rw put-no (part-each p v (λ z. z ≡ pos 0) i (λ q. E .only i (λ g. no-eq (sym at-tail ∙ ap p (sym g) ∙ q)) f) (λ _. refl));
   }
 
 -- the new columns of s and of s', and what they make of the layer
@@ -102,11 +88,18 @@ module _ (s : ℕ) (p : ℕ → Bool) (L D : Layer) where
   abbrev pub inner : Chain
   inner = put (L .n) (negsuc 0) (part p (λ i. D .d i s))
 
-  pub halves-is : ((j : ℕ) → D .d (L .n) j ≡ pos 0) → halves s p L D ≡ record { n = suc (D .n); d = λ i. put s (outer i) (put (D .n) (inner i) (D .d i)) }
-  unfolding halves
-  halves-is z = ap (λ (d : Entries). record { n = suc (D .n); d = d }) (fun-ext λ i. eq-or i (L .n)
-      (λ e. rw (e, eqb-same, put-same (L .n) (pos 1), put-same (L .n) (negsuc 0), fun-ext z))
-      (λ e. rw (ne-eqb i (L .n) e, put-no (L .n) (pos 1) _ i e, put-no (L .n) (negsuc 0) _ i e)))
+  module _ (new : (j : ℕ) → D .d (L .n) j ≡ pos 0) where
+    pub halves-columns : halves s p L D ≡ record { n = suc (D .n); d = λ i. put s (outer i) (put (D .n) (inner i) (D .d i)) }
+    unfolding halves
+    halves-columns = same-layer refl λ i j. eq-or i (L .n)
+        (λ e. rw (e, eqb-same, put-same (L .n) (pos 1), put-same (L .n) (negsuc 0), fun-ext new))
+        (λ e. rw (ne-eqb i (L .n) e, put-no (L .n) (pos 1) _ i e, put-no (L .n) (negsuc 0) _ i e))
+
+    -- together they are the old one
+    pub halves-sum : (i : ℕ) → outer i +ℤ inner i ≡ D .d i s
+    halves-sum i = eq-or i (L .n)
+        (λ e. rw (e, put-same (L .n) (pos 1), put-same (L .n) (negsuc 0)) (sym (new s)))
+        (λ e. rw (put-no (L .n) (pos 1) _ i e, put-no (L .n) (negsuc 0) _ i e) (rest-part p (λ i. D .d i s) i))
 
 module _ {m s : ℕ} {p : ℕ → Bool} {X : Complex} (G : Good X) (C : CanSplit m s p X) where
   abbrev L : Layer
@@ -141,11 +134,11 @@ module _ {m s : ℕ} {p : ℕ → Bool} {X : Complex} (G : Good X) (C : CanSplit
 
   outer-units : (i : ℕ) → natAbs (outer s p L D i) ≤ 1
   outer-units = put-each (L .n) (pos 1) (rest p old) (λ i z. natAbs z ≤ 1) (omega arith)
-      (λ i _. rest-of p old (λ z. natAbs z ≤ 1) i (λ _. omega arith) (λ _. G .units (suc m) i s))
+      (λ i _. rest-each p old (λ z. natAbs z ≤ 1) i (λ _. omega arith) (λ _. G .units (suc m) i s))
 
   inner-units : (i : ℕ) → natAbs (inner s p L D i) ≤ 1
   inner-units = put-each (L .n) (negsuc 0) (part p old) (λ i z. natAbs z ≤ 1) (omega arith)
-      (λ i _. part-of p old (λ z. natAbs z ≤ 1) i (λ _. G .units (suc m) i s) (λ _. omega arith))
+      (λ i _. part-each p old (λ z. natAbs z ≤ 1) i (λ _. G .units (suc m) i s) (λ _. omega arith))
 
   -- the column of s' put first, then that of s
   with-inner : Sound (suc m) (record { n = suc (D .n); d = λ i. put (D .n) (inner s p L D i) (D .d i) })
@@ -153,7 +146,7 @@ module _ {m s : ℕ} {p : ℕ → Bool} {X : Complex} (G : Good X) (C : CanSplit
       inner-units (λ _. inner-bounds)
 
   halves-sound : Sound (suc m) (halves s p L D)
-  halves-sound = rw (halves-is s p L D no-row)
+  halves-sound = rw (halves-columns s p L D no-row)
       (put-column (suc (D .n)) s (outer s p L D) _ (with-inner .units) (λ j h e. with-inner .cell j h) outer-units (λ _. outer-bounds))
 
   repeated-sound : Sound (suc (suc m)) (repeated s D (X (suc (suc m))))
@@ -166,7 +159,9 @@ module _ {m s : ℕ} {p : ℕ → Bool} {X : Complex} (G : Good X) (C : CanSplit
   divider-sound = put-column (suc (L .n)) (L .n) (boundary L (part p old)) (L .d) (G .units m) (λ j h e. sound-at G m .cell j (omega arith))
       (boundary-units G m _ (C .divider)) (λ _. boundary-bounds G m _ (C .divider))
 
-  pub split-cells : Cells (layers (split m s p X))
+  split-cells : Cells (layers (split m s p X))
   unfolding split
-  split-cells = cells-from (at3-each m (λ q. kept (X q)) _ _ _ (λ q S. Sound q (S .layer))
-      (λ q _ _ _. sound-at G q) divider-sound halves-sound repeated-sound)
+  split-cells = cells-layers G m _ _ _ divider-sound halves-sound repeated-sound
+
+  pub good-split : Good (layers (split m s p X))
+  good-split = good-of (split-frame (frame-of G) C) split-cells

@@ -1,41 +1,24 @@
 -- Split: the layers still fit, and chains are carried.
 use mathlib.Core.Path.{_≡_, refl, sym, _∙_, ap, fun-ext}
 use mathlib.Core.Logic.{_≢_}
-use mathlib.Core.Bool.{Bool, true, false, cond}
+use mathlib.Core.Bool.{Bool}
 use Prim.Native.Nat.{ℕ, suc, _<_, _≤_}
 use native.Mathlib.Omega.{arith}
 use borrow.Author.Tests.{ne-eqb}
-use lib.IntN.{ℤ, pos, negℤ, _+ℤ_, _-ℤ_, _*ℤ_, +ℤ-idl, +ℤ-idr, +ℤ-invr, *ℤ-comm, *ℤ-zero}
+use lib.IntN.{ℤ, pos, negℤ, _+ℤ_, _-ℤ_, _*ℤ_, +ℤ-idl, +ℤ-idr, *ℤ-comm, *ℤ-zero}
 use Rattle.maths.specs.Sums.{dot, δ}
 use Rattle.maths.proofs.Integers.{*ℤ-1, *ℤ-minus-one, ints}
 use Rattle.maths.proofs.Cases.{eqb-same, eq-or}
 use Rattle.maths.proofs.Sums.{δ-same, δ-no}
 use Rattle.maths.proofs.Dots.{dot-+l, dot-+r, dot-*l, dot-neg-l, dot-neg-r, dot-δ-l, dot-δ-r, dot-0-l, dot-assoc, dot-rank1}
 use Rattle.rules.specs.Complex.{Layer, Complex, Chain}
-use Rattle.rules.specs.Edits.{Step, kept, layers, at3, put, boundary, part, rest, divider, halves, repeated, split}
-use Rattle.rules.proofs.Changes.{put-same, put-no, put-is, put-zero}
-use Rattle.rules.proofs.Frame.{Fit, Frame, columns-at}
+use Rattle.rules.specs.Edits.{Step, kept, layers, put, boundary, part, divider, halves, repeated, split}
+use Rattle.rules.proofs.Changes.{put-same, put-no, put-is, put-zero, part-zero, rest-is}
+use Rattle.rules.proofs.Frame.{same-layer, Fit, Frame, columns-at}
 use Rattle.rules.proofs.Allowed.{CanSplit}
-use Rattle.rules.proofs.Fitted.{same-layer, layers-at3, fitted-layers}
+use Rattle.rules.proofs.Fitted.{fitted-layers}
 use Rattle.rules.proofs.Carries.{Carries, Keeps, Maps, kept-keeps, at3-carries}
 use Rattle.rules.proofs.Makes.{added, added-is, added-ground, added-below, added-keeps, added-maps}
-
--- the rest is what is left of the whole without the part
-pub rest-is : (p : ℕ → Bool) (v : Chain) (i : ℕ) → rest p v i ≡ v i -ℤ part p v i
-unfolding part rest
-rest-is p v i = go (p i)
-  where
-    go : (b : Bool) → cond b (pos 0) (v i) ≡ v i -ℤ cond b (v i) (pos 0)
-    go true = sym (+ℤ-invr (v i))
-    go false = sym (+ℤ-idr (v i))
-
-part-0 : (p : ℕ → Bool) (v : Chain) (i : ℕ) → v i ≡ pos 0 → part p v i ≡ pos 0
-unfolding part
-part-0 p v i h = rw h (go (p i))
-  where
-    go : (b : Bool) → cond b (pos 0) (pos 0) ≡ pos 0
-    go true = refl
-    go false = refl
 
 -- `put-is` with the factors in the other order
 put-front : (t : ℕ) (z : ℤ) (c : Chain) → c t ≡ pos 0 → put t z c ≡ (λ i. c i +ℤ δ t i *ℤ z)
@@ -51,7 +34,7 @@ put-two a b c z ne p q j = eq-or j a
     (λ f. rw (f, put-same, q, δ-same, *ℤ-minus-one))
     (λ f. rw (put-no b _ c j f, δ-no b j f, *ℤ-zero, +ℤ-idr))))
 
-boundary-0 : (A : Layer) (c : Chain) (r : ℕ) → ((j : ℕ) → A .d r j ≡ pos 0) → boundary A c r ≡ pos 0
+pub boundary-0 : (A : Layer) (c : Chain) (r : ℕ) → ((j : ℕ) → A .d r j ≡ pos 0) → boundary A c r ≡ pos 0
 unfolding boundary
 boundary-0 A c r h = dot-0-l 96 _ (λ j l. h j)
 
@@ -99,7 +82,7 @@ module _ (s : ℕ) (p : ℕ → Bool) (L D U : Layer) (R : Room s L D U) where
   halves-is = same-layer refl λ i j.
       let v : Chain = λ i. D .d i s in
       eq-or i (L .n)
-      (λ e. rw (e, eqb-same, δ-same, part-0 p v (L .n) (row-0 s), row-0 j) (put-two s (D .n) (λ j. pos 0) (pos 1) other refl refl j))
+      (λ e. rw (e, eqb-same, δ-same, part-zero p v (L .n) (row-0 s), row-0 j) (put-two s (D .n) (λ j. pos 0) (pos 1) other refl refl j))
       (λ e. rw (ne-eqb i (L .n) e, δ-no (L .n) i e, +ℤ-idl) (put-two s (D .n) (D .d i) (negℤ (part p v i)) other (rest-is p v i) (rw column-0 (simp ints)) j))
 
   repeated-is : repeated s D U ≡ record { n = U .n; d = λ i j. U .d i j +ℤ δ (D .n) i *ℤ U .d s j }
@@ -117,7 +100,7 @@ module _ (s : ℕ) (p : ℕ → Bool) (L D U : Layer) (R : Room s L D U) where
     rows = λ i j h.
         let z : (j : ℕ) → D .d i j ≡ pos 0 = λ j. R .here .rows i j (omega arith) in
         let e : i ≢ L .n = omega arith in
-        simp (z, δ-no, part-0, ints);
+        simp (z, δ-no, part-zero, ints);
     columns = λ i j h.
         let z : D .d i j ≡ pos 0 = R .here .columns i j (omega arith) in
         let e : j ≢ s = omega (arith, R .cell) in
@@ -125,7 +108,7 @@ module _ (s : ℕ) (p : ℕ → Bool) (L D U : Layer) (R : Room s L D U) where
         simp (z, δ-no, ints);
     null = λ r j.
         let l : L .n < 96 = R .room-below in
-        simp (divider-is, R .here .null, dot-rank1, dot-+r, dot-neg-r, dot-δ-r, dot-δ-l, left-0, row-0, part-0, δ-same, ints);
+        simp (divider-is, R .here .null, dot-rank1, dot-+r, dot-neg-r, dot-δ-r, dot-δ-l, left-0, row-0, part-zero, δ-same, ints);
   })
 
   fit-repeated : Fit (halves s p L D) (repeated s D U)
@@ -169,22 +152,23 @@ module _ (s : ℕ) (p : ℕ → Bool) (L D U : Layer) (R : Room s L D U) where
   unfolding boundary
   maps-repeated c w r = rw (put-front (D .n) (boundary U c s) (boundary U c) (boundary-0 U c (D .n) above-0), repeated-is) (simp (dot-+l, dot-*l))
 
-pub layers-split : (m s : ℕ) (p : ℕ → Bool) (X : Complex) →
-    layers (split m s p X) ≡ at3 m X (divider s p (X m) (X (suc m))) (halves s p (X m) (X (suc m))) (repeated s (X (suc m)) (X (suc (suc m))))
-unfolding split
-layers-split m s p X = layers-at3 X m _ _ _
-
 module _ {m s : ℕ} {p : ℕ → Bool} {X : Complex} (F : Frame X) (C : CanSplit m s p X) where
-  the-room : Room s (X m) (X (suc m)) (X (suc (suc m)))
+  abbrev L : Layer
+  L = X m
+
+  abbrev D : Layer
+  D = X (suc m)
+
+  abbrev U : Layer
+  U = X (suc (suc m))
+
+  the-room : Room s L D U
   the-room = record { columns = columns-at F m; here = F .fit m; above = F .fit (suc m); cell = C .cell; room-below = C .room-below; room = C .room }
 
   pub split-frame : Frame (layers (split m s p X))
   unfolding split divider repeated
   split-frame =
       let dim : m < 3 = C .dim in
-      let L = X m in
-      let D = X (suc m) in
-      let U = X (suc (suc m)) in
       let v = border s p L D in
       fitted-layers (added v L) (halved s p L D) (kept (repeated s D U)) F (record {
         few = C .room-below;
@@ -205,9 +189,6 @@ module _ {m s : ℕ} {p : ℕ → Bool} {X : Complex} (F : Frame X) (C : CanSpli
   pub split-carries : Carries X (split m s p X)
   unfolding split divider repeated
   split-carries =
-      let L = X m in
-      let D = X (suc m) in
-      let U = X (suc (suc m)) in
       let v = border s p L D in
       at3-carries (added v L) (halved s p L D) (kept (repeated s D U))
       (added-keeps v L (columns-at F m) (C .room-below))

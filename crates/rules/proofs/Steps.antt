@@ -11,18 +11,19 @@ use Rattle.rules.specs.Good.{Good}
 use Rattle.rules.specs.Edits.{Step, layers}
 use Rattle.rules.specs.Operators.{amountOf, edited, removed, step}
 use Rattle.rules.specs.Form.{facesOf}
-use Rattle.rules.proofs.Frame.{frame-of, good-of}
+use Rattle.rules.proofs.Frame.{frame-of}
 use Rattle.rules.proofs.Carries.{Carries}
 use Rattle.rules.proofs.Decoded.{Formed}
-use Rattle.rules.proofs.Accepted.{make-accepted, kill-accepted, split-accepted, merge-condition, flip-accepted, make-keeps, split-keeps, flip-keeps, kill-removes, merge-removes}
-use Rattle.rules.proofs.Makes.{make-frame, make-carries}
-use Rattle.rules.proofs.Splits.{split-frame, split-carries}
-use Rattle.rules.proofs.Flips.{flip-frame, flip-carries}
-use Rattle.rules.proofs.Kills.{kill-frame}
-use Rattle.rules.proofs.Merges.{merge-frame}
-use Rattle.rules.proofs.MadeCells.{make-cells, flip-cells}
-use Rattle.rules.proofs.SplitCells.{split-cells}
-use Rattle.rules.proofs.KilledCells.{kill-cells, merge-cells}
+use Rattle.rules.proofs.Passed.{make-keeps, split-keeps, flip-keeps, kill-removes, merge-removes}
+use Rattle.rules.proofs.Accepted.{make-accepted, kill-accepted, split-accepted, merge-condition, flip-accepted}
+use Rattle.rules.proofs.Makes.{make-carries}
+use Rattle.rules.proofs.Splits.{split-carries}
+use Rattle.rules.proofs.Flips.{flip-carries}
+use Rattle.rules.proofs.MakeCells.{good-made}
+use Rattle.rules.proofs.KillCells.{good-killed}
+use Rattle.rules.proofs.SplitCells.{good-split}
+use Rattle.rules.proofs.MergeCells.{good-merged}
+use Rattle.rules.proofs.FlipCells.{good-flipped}
 use Rattle.rules.proofs.Eulers.{make-euler, kill-euler, split-euler, merge-euler, flip-euler}
 
 -- what an accepted operator leaves
@@ -41,7 +42,7 @@ module _ {X : Complex} (G : Good X) (s : List ℕ) where
       let a = make-accepted G k _ (h .0) (h .1) e in
       let C = a .0 in
       rw (a .1) (record {
-        kept = record { good = good-of (make-frame (frame-of G) C) (make-cells G C); moved = make-euler _ _ X (h .0) };
+        kept = record { good = good-made G C; moved = make-euler _ _ X (h .0) };
         carries = make-carries (frame-of G) C;
       })
   edit-kept (Kill k c) h e = absurd (kill-removes X k c e)
@@ -50,14 +51,14 @@ module _ {X : Complex} (G : Good X) (s : List ℕ) where
       let a = split-accepted G (suc m) c _ (h .0) (h .1) e in
       let C = a .0 in
       rw (a .1) (record {
-        kept = record { good = good-of (split-frame (frame-of G) C) (split-cells G C); moved = split-euler m c _ X (C .dim) };
+        kept = record { good = good-split G C; moved = split-euler m c _ X (C .dim) };
         carries = split-carries (frame-of G) C;
       })
   edit-kept (Merge k t) h e = absurd (merge-removes X k t e)
   edit-kept (Flip k c) h e =
       let a = flip-accepted k c X e in
       rw (a .1) (record {
-        kept = record { good = good-of (flip-frame k c (frame-of G)) (flip-cells k c G (h .0)); moved = flip-euler k c X (h .1) };
+        kept = record { good = good-flipped k c G (h .0); moved = flip-euler k c X (h .1) };
         carries = flip-carries k c X;
       })
 
@@ -66,10 +67,10 @@ module _ {X : Complex} (G : Good X) (s : List ℕ) where
   removal-kept (Make k list) h e = absurd (make-keeps X k _ e)
   removal-kept (Kill k c) h e =
       let a = kill-accepted G k c h e in
-      rw (a .1) (record { good = good-of (kill-frame (frame-of G) (a .0)) (kill-cells G (a .0)); moved = kill-euler (a .0) })
+      rw (a .1) (record { good = good-killed G (a .0); moved = kill-euler (a .0) })
   removal-kept (Split k c list) h e = absurd (split-keeps X k c _ e)
   removal-kept (Merge k t) h e =
       let a = merge-condition G k t h e in
       let C = a .2 in
-      rw (a .3) (record { good = good-of (merge-frame (frame-of G) C) (merge-cells G C); moved = merge-euler C })
+      rw (a .3) (record { good = good-merged G C; moved = merge-euler C })
   removal-kept (Flip k c) h e = absurd (flip-keeps X k c e)

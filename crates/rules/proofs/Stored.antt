@@ -1,43 +1,40 @@
 -- Stored and abstract agree: `complex` and `stored` undo each other.
 use mathlib.Core.Path.{_≡_, refl, sym, _∙_, ap, fun-ext}
+use mathlib.Core.Bool.{true}
 use mathlib.Core.List.{List, [], _∷_}
 use Prim.Native.Nat.{ℕ, zero, suc, _<_, _≤_}
 use native.Mathlib.Omega.{arith}
+use borrow.Author.Tests.{eq-eqb}
 use lib.IntN.{pos}
 use lib.ListN.{length, getD}
 use Rattle.maths.specs.Tables.{Entries, entries, tab}
-use Rattle.maths.proofs.Tables.{clip-keeps, entries-tab, tab-entries}
-use Rattle.maths.proofs.Cases.{lt-or}
-use Rattle.rules.specs.Complex.{Pattern, Layer, Complex, complex, stored}
+use Rattle.maths.proofs.Tables.{clip-keeps, entries-tab, tab-entries, length-tab}
+use Rattle.maths.proofs.Cases.{lt-or, and-both}
+use Rattle.rules.specs.Complex.{Pattern, Complex, complex, stored}
 use Rattle.rules.specs.Good.{Good}
-
--- a layer by its parts
-pub layer-is : (A : Layer) {n : ℕ} {d : Entries} → n ≡ A .n → ((i j : ℕ) → d i j ≡ A .d i j) → record { n = n; d = d } ≡ A
-layer-is A e h = λ i. record { n = e i; d = fun-ext (λ r. fun-ext (λ c. h r c)) i }
+use Rattle.rules.specs.Calls.{sized}
+use Rattle.rules.proofs.Frame.{same-layer, within-rows, within-columns}
 
 module _ {X : Complex} (G : Good X) where
   -- a matrix of a good pattern is 0 outside of 96 by 96
-  pub outside : (k i j : ℕ) → (i < 96 → 96 ≤ j) → X k .d i j ≡ pos 0
+  outside : (k i j : ℕ) → (i < 96 → 96 ≤ j) → X k .d i j ≡ pos 0
   outside zero i j o = G .ground i j
-  outside (suc k) i j o =
-      lt-or i 96
-      (λ h. let few : X (suc k) .n ≤ 96 = G .few (suc k) in let past : 96 ≤ j = o h in G .columns (suc k) i j (omega arith))
-      (λ h. let few : X k .n ≤ 96 = G .few k in G .rows k i j (omega arith))
+  outside (suc k) i j o = lt-or i 96 (λ h. within-columns G (suc k) i j (o h)) (within-rows G k j i)
 
   pub complex-stored : complex (stored X) ≡ X
   complex-stored = fun-ext at
     where
       matrix : (k : ℕ) → record { n = X k .n; d = entries (tab (X k .d)) } ≡ X k
-      matrix k = layer-is (X k) refl (λ i j. ap (λ (f : Entries). f i j) (entries-tab (X k .d) ∙ clip-keeps (outside k)))
+      matrix k = same-layer refl (λ i j. ap (λ (f : Entries). f i j) (entries-tab (X k .d) ∙ clip-keeps (outside k)))
 
       at : (k : ℕ) → complex (stored X) k ≡ X k
-      at zero = layer-is (X 0) refl (λ i j. sym (G .ground i j))
+      at zero = same-layer refl (λ i j. sym (G .ground i j))
       at (suc zero) = matrix 1
       at (suc (suc zero)) = matrix 2
       at (suc (suc (suc zero))) = matrix 3
       at (suc (suc (suc (suc k)))) =
           let none : X (suc (suc (suc (suc k)))) .n ≡ 0 = G .top _ (omega arith) in
-          layer-is (X (suc (suc (suc (suc k))))) (sym none) (λ i j. sym (G .columns _ i j (omega arith)))
+          same-layer (sym none) (λ i j. sym (G .columns _ i j (omega arith)))
 
 -- a stored pattern of the right lengths
 pub record Sized (p : Pattern) : Type 0 where
@@ -45,6 +42,13 @@ pub record Sized (p : Pattern) : Type 0 where
   pub size1 : length (p .m1) ≡ 9216
   pub size2 : length (p .m2) ≡ 9216
   pub size3 : length (p .m3) ≡ 9216
+
+-- such are the lists that are lent, and those of every complex
+pub sized-is : {p : Pattern} → Sized p → sized p ≡ true
+sized-is {p} S = and-both (and-both (eq-eqb (length (p .m1)) 9216 (S .size1)) (eq-eqb (length (p .m2)) 9216 (S .size2))) (eq-eqb (length (p .m3)) 9216 (S .size3))
+
+pub stored-sized : (X : Complex) → Sized (stored X)
+stored-sized X = record { four = refl; size1 = length-tab (X 1 .d); size2 = length-tab (X 2 .d); size3 = length-tab (X 3 .d) }
 
 four-are : (l : List ℕ) → length l ≡ 4 → getD l 0 0 ∷ getD l 1 0 ∷ getD l 2 0 ∷ getD l 3 0 ∷ [] ≡ l
 four-are [] e = absurd (omega arith)

@@ -1,20 +1,21 @@
 -- The test of good is true exactly where the statement holds.
-use mathlib.Core.Path.{_≡_, refl, sym, _∙_, ap}
+use mathlib.Core.Path.{_≡_, refl, ap}
 use mathlib.Core.Logic.{_≢_}
 use mathlib.Core.Bool.{Bool, true, not, cond, _&&_}
 use Prim.Native.Nat.{ℕ, zero, suc, _<_, _≤_}
 use native.Mathlib.Omega.{arith}
 use borrow.Author.Tests.{lt-ltb, le-ltb, leb-true, le-leb, not-true}
 use lib.Dec.{ltb, leb}
-use lib.IntN.{pos, natAbs, zero-*ℤ}
+use lib.IntN.{pos, natAbs}
 use Rattle.maths.specs.Tests.{isZero, isUnit, all}
 use Rattle.maths.specs.Sums.{dot}
 use Rattle.maths.proofs.Cases.{lt-or, and-left, and-right, and-both}
 use Rattle.maths.proofs.Tests.{zero-is, zero-true, unit-true, unit-is, all-at, all-of}
-use Rattle.maths.proofs.Dots.{dot-more, dot-0-l, dot-0-r}
+use Rattle.maths.proofs.Dots.{dot-0-l, dot-0-r}
 use Rattle.maths.proofs.Tables.{in-or-out, entries-out}
 use Rattle.rules.specs.Complex.{Pattern, Layer, Complex, bare, complex}
 use Rattle.rules.specs.Good.{Good, oneEach, allZero, inPlace, closes, isGood}
+use Rattle.rules.proofs.Frame.{Fit, good-of, face-below, within-rows}
 use Rattle.rules.proofs.Judged.{one-each-true, one-each-is, some-face, has-face, closes-at, closes-is}
 
 -- what is so of every complex that comes from lists: no faces below corners, nothing above blocks, nothing outside of 96 by 96
@@ -41,10 +42,10 @@ complex-bounded p = record { ground = λ i j. refl; above = above; outside = out
     outside (suc (suc (suc (suc k)))) i j o = refl
 
 -- an entry of a matrix with `rows` rows in use
-pub record Placed (rows : ℕ) (A : Layer) (i j : ℕ) : Type 0 where
-  pub unit : natAbs (A .d i j) ≤ 1
-  pub row : rows ≤ i → A .d i j ≡ pos 0
-  pub column : A .n ≤ j → A .d i j ≡ pos 0
+record Placed (rows : ℕ) (A : Layer) (i j : ℕ) : Type 0 where
+  unit : natAbs (A .d i j) ≤ 1
+  row : rows ≤ i → A .d i j ≡ pos 0
+  column : A .n ≤ j → A .d i j ≡ pos 0
 
 nothing : (rows : ℕ) (A : Layer) (i j : ℕ) → A .d i j ≡ pos 0 → Placed rows A i j
 nothing rows A i j z = record { unit = rw z (omega arith); row = λ h. z; column = λ h. z }
@@ -112,10 +113,6 @@ module _ {X : Complex} (B : Bounded X) (T : Tests X) where
       (λ h. in-place-at (X k .n) (X (suc k)) (all-at 3 (λ k. inPlace (X k .n) (X (suc k))) (T .place) k h) (B .outside (suc k)) i j)
       (λ h. nothing (X k .n) (X (suc k)) i j (rw (B .above (suc k) (omega arith))))
 
-  columns-at : (k i j : ℕ) → X k .n ≤ j → X k .d i j ≡ pos 0
-  columns-at zero i j h = B .ground i j
-  columns-at (suc k) i j h = placed k i j .column h
-
   units-at : (k i j : ℕ) → natAbs (X k .d i j) ≤ 1
   units-at zero i j = rw (B .ground i j) (omega arith)
   units-at (suc k) i j = placed k i j .unit
@@ -126,33 +123,32 @@ module _ {X : Complex} (B : Bounded X) (T : Tests X) where
       (λ h. let none : X (suc (suc k)) .n ≡ 0 = ap (λ (A : Layer). A .n) (B .above (suc (suc k)) (omega arith)) in absurd (omega arith))
 
   -- within the counts by the test, and outside because a factor is 0
-  null-at : (k r j : ℕ) → dot 96 (λ i. X (suc k) .d r i) (λ i. X (suc (suc k)) .d i j) ≡ pos 0
-  null-at k r j =
+  null-at : (k r j : ℕ) → dot 96 (λ i. X k .d r i) (λ i. X (suc k) .d i j) ≡ pos 0
+  null-at zero r j = dot-0-l 96 _ (λ i h. B .ground r i)
+  null-at (suc k) r j =
       lt-or j (X (suc (suc k)) .n)
       (λ c. lt-or r (X k .n)
       (λ l. lt-or k 2
-      (λ h. let few : X (suc k) .n ≤ 96 = few-at (suc k) in
-      dot-more (X (suc k) .n) 96 _ _ few (λ i p q. rw (columns-at (suc k) r i p, zero-*ℤ))
-      ∙ closes-at (λ i. X (suc (suc k)) .d i j) (X k .n) (X (suc k)) (all-at (X (suc (suc k)) .n) _ (all-at 2 _ (T .closed) k h) j c) r l)
+      (λ h. closes-at (λ i. X (suc (suc k)) .d i j) (X k .n) (X (suc k)) (few-at (suc k)) (λ i. placed (suc k) i j .row)
+      (all-at (X (suc (suc k)) .n) _ (all-at 2 _ (T .closed) k h) j c) r l)
       (λ h. dot-0-r 96 _ (λ i q. rw (B .above (suc (suc k)) (omega arith)))))
       (λ l. dot-0-l 96 _ (λ i q. placed k r i .row l)))
-      (λ c. dot-0-r 96 _ (λ i q. columns-at (suc (suc k)) i j c))
+      (λ c. dot-0-r 96 _ (λ i q. placed (suc k) i j .column c))
+
+  fit-at : (k : ℕ) → Fit (X k) (X (suc k))
+  fit-at k = record { few = few-at (suc k); rows = λ i j. placed k i j .row; columns = λ i j. placed k i j .column; null = null-at k }
 
 -- what the test finds good is good
 pub good-true : {X : Complex} → Bounded X → isGood X ≡ true → Good X
 good-true {X} B e =
     let T = tests-of {X = X} e in
-    record {
-      few = few-at B T;
+    good-of
+    (record { few = few-at B T 0; ground = B .ground; fit = fit-at B T; top = λ k h. ap (λ (A : Layer). A .n) (B .above k h) })
+    (record {
       units = units-at B T;
-      rows = λ k i j. placed B T k i j .row;
-      columns = columns-at B T;
       seams = λ j h. one-each-true (λ i. X 1 .d i j) (all-at (X 1 .n) (λ j. oneEach (λ i. X 1 .d i j)) (T .seams) j h);
       faces = faces-at B T;
-      null = null-at B T;
-      ground = B .ground;
-      top = λ k h. ap (λ (A : Layer). A .n) (B .above k h);
-    }
+    })
 
 -- what is good the test finds good
 pub good-is : {X : Complex} → Good X → isGood X ≡ true
@@ -161,11 +157,7 @@ good-is {X} G = tests-are (record {
   place = all-of 3 (λ k h. in-place-is (X k .n) (X (suc k)) (λ i j. record { unit = G .units (suc k) i j; row = G .rows k i j; column = G .columns (suc k) i j }));
   seams = all-of (X 1 .n) (λ j h. one-each-is (λ i. X 1 .d i j) (G .seams j h));
   faces = all-of 2 (λ k h. all-of (X (suc (suc k)) .n) (λ j l. let f = G .faces k j l in
-      ap not (has-face (λ i. X (suc (suc k)) .d i j) (f .0) (below k j (f .0) (f .1)) (f .1))));
-  closed = all-of 2 (λ k h. all-of (X (suc (suc k)) .n) (λ j l. closes-is (λ i. X (suc (suc k)) .d i j) (X k .n) (X (suc k)) (λ r p.
-      sym (dot-more (X (suc k) .n) 96 _ _ (G .few (suc k)) (λ i p q. rw (G .columns (suc k) r i p, zero-*ℤ))) ∙ G .null k r j)));
+      ap not (has-face (λ i. X (suc (suc k)) .d i j) (f .0) (face-below (within-rows G (suc k) j) (f .0) (f .1)) (f .1))));
+  closed = all-of 2 (λ k h. all-of (X (suc (suc k)) .n) (λ j l.
+      closes-is (λ i. X (suc (suc k)) .d i j) (X k .n) (X (suc k)) (G .few (suc k)) (λ i. G .rows (suc k) i j) (λ r. G .null k r j)));
 })
-  where
-    -- a face that is not 0 is below 96
-    below : (k j i : ℕ) → X (suc (suc k)) .d i j ≢ pos 0 → i < 96
-    below k j i n = lt-or i 96 (λ h. h) (λ h. let few : X (suc k) .n ≤ 96 = G .few (suc k) in absurd (n (G .rows (suc k) i j (omega arith))))

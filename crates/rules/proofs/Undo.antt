@@ -1,12 +1,10 @@
 -- Merge undoes split: any accepted split followed by merge at the dividing cell is accepted and gives back every count and every byte.
-use mathlib.Core.Path.{_≡_, _∙_, ap, fun-ext}
+use mathlib.Core.Path.{_≡_, _∙_, ap}
 use mathlib.Core.Bool.{true}
 use mathlib.Core.List.{List, [], _∷_}
 use Prim.Native.Nat.{ℕ, zero, suc, _+_, _<_, _≤_}
 use native.Mathlib.Omega.{arith}
-use borrow.Author.Tests.{eq-eqb, le-leb}
-use Rattle.maths.proofs.Cases.{and-both}
-use Rattle.maths.proofs.Tables.{length-tab}
+use borrow.Author.Tests.{le-leb}
 use Rattle.rules.specs.declared.form.OperatorForm.{OperatorForm}
 use Rattle.rules.specs.declared.operator.Operator.{Operator}
 use Rattle.rules.specs.Refusals.{accepted}
@@ -15,25 +13,22 @@ use Rattle.rules.specs.Good.{Good, isGood}
 use Rattle.rules.specs.Edits.{Step, layers}
 use Rattle.rules.specs.Operators.{Faces, edited, removed, splitStep, mergeStep, step}
 use Rattle.rules.specs.Form.{byteAt, codeOf, cellAt, operatorAt, loneOperator, facesOf}
-use Rattle.rules.specs.Calls.{lent, sized, applyCall}
-use Rattle.rules.proofs.Frame.{frame-of, good-of}
-use Rattle.rules.proofs.Stored.{Sized, complex-stored, stored-complex}
+use Rattle.rules.specs.Calls.{lent, applyCall}
+use Rattle.rules.proofs.Stored.{Sized, sized-is, stored-sized, complex-stored, stored-complex}
 use Rattle.rules.proofs.Tested.{good-is, good-true, complex-bounded}
 use Rattle.rules.proofs.Accepted.{split-accepted}
-use Rattle.rules.proofs.Splits.{split-frame}
-use Rattle.rules.proofs.SplitCells.{split-cells}
-use Rattle.rules.proofs.Merged.{merge-accepted}
-use Rattle.rules.proofs.Undone.{merge-split}
+use Rattle.rules.proofs.SplitCells.{good-split}
+use Rattle.rules.proofs.MergeSplit.{merge-accepted, merge-split}
 
 module _ {X : Complex} (G : Good X) (m s : ℕ) (F : Faces) (S : ℕ → Step) (dim : m < 3) (e : splitStep (suc m) s F X ≡ edited S) where
   pub split-good : Good (layers S)
-  split-good = let a = split-accepted G (suc m) s F (omega arith) dim e in rw (a .1) (good-of (split-frame (frame-of G) (a .0)) (split-cells G (a .0)))
+  split-good = let a = split-accepted G (suc m) s F (omega arith) dim e in rw (a .1) (good-split G (a .0))
 
   -- the merge at the cell that the split added is accepted, and leaves the pattern of before
   pub merge-after-split : mergeStep m (X m .n) (layers S) ≡ removed X
   merge-after-split =
       let a = split-accepted G (suc m) s F (omega arith) dim e in
-      rw (a .1) (merge-accepted G (a .0) ∙ ap removed (fun-ext (merge-split (frame-of G) (a .0))))
+      rw (a .1) (merge-accepted G (a .0) ∙ ap removed (merge-split G (a .0)))
 
 -- the bytes of a merge at cell t of dimension m
 abbrev pub mergeBytes : ℕ → ℕ → List ℕ
@@ -46,19 +41,13 @@ merge-form (suc zero) t d h = rw (le-leb t 255 h, le-leb 0 t (omega arith))
 merge-form (suc (suc zero)) t d h = rw (le-leb t 255 h, le-leb 0 t (omega arith))
 merge-form (suc (suc (suc m))) t d h = absurd (omega arith)
 
-stored-sized : (X : Complex) → sized (stored X) ≡ true
-stored-sized X = and-both (and-both (eq-eqb _ 9216 (length-tab (X 1 .d))) (eq-eqb _ 9216 (length-tab (X 2 .d)))) (eq-eqb _ 9216 (length-tab (X 3 .d)))
-
 module _ (p : Pattern) (P : Sized p) (good : isGood (complex p) ≡ true) (s : List ℕ) (m c list next : ℕ) (S : ℕ → Step) (dim : m < 3)
     (form : loneOperator s ≡ OperatorForm.Decoded (Operator.Split (suc m) c list) next)
     (split-ok : step (Operator.Split (suc m) c list) (facesOf s (Operator.Split (suc m) c list)) (complex p) ≡ edited S) where
-  p-sized : sized p ≡ true
-  p-sized = and-both (and-both (eq-eqb _ 9216 (P .size1)) (eq-eqb _ 9216 (P .size2))) (eq-eqb _ 9216 (P .size3))
-
   -- what the split call leaves
   pub split-call : applyCall p s ≡ lent (record { counts = countsOf (layers S); refusal = accepted }) (stored (layers S))
   unfolding applyCall
-  split-call = rw (p-sized, good, form, split-ok)
+  split-call = rw (sized-is P, good, form, split-ok)
 
   -- and the merge call after it
   pub merge-call : applyCall (stored (layers S)) (mergeBytes m (complex p m .n)) ≡ lent (record { counts = p .counts; refusal = accepted }) p
@@ -68,5 +57,5 @@ module _ (p : Pattern) (P : Sized p) (good : isGood (complex p) ≡ true) (s : L
       let G' : Good (layers S) = split-good G m c _ S dim split-ok in
       let few : complex p m .n ≤ 96 = G .few m in
       let back : complex (stored (layers S)) ≡ layers S = complex-stored G' in
-      rw (stored-sized (layers S), back, good-is G', merge-form m (complex p m .n) dim (omega arith), merge-after-split G m c _ S dim split-ok)
+      rw (sized-is (stored-sized (layers S)), back, good-is G', merge-form m (complex p m .n) dim (omega arith), merge-after-split G m c _ S dim split-ok)
       (ap (λ (q : Pattern). lent (record { counts = q .counts; refusal = accepted }) q) (stored-complex p P))

@@ -14,13 +14,13 @@ use Rattle.rules.specs.Form.{byteAt}
 use Rattle.rules.specs.Mesh.{Reading, taken, Place, corners, readCell, readSection, readMesh, writeCell, writeSection, writeMesh}
 use Rattle.rules.proofs.Changes.{put-same, put-no}
 use Rattle.rules.proofs.Fields.{Byte, byte-says, after-got}
-use Rattle.rules.proofs.Places.{Text, ends, byte, joined, text-length, text-within, text-is}
-use Rattle.rules.proofs.Repeats.{repeat-last}
-use Rattle.rules.proofs.Begun.{make-here, make-other}
+use Rattle.rules.proofs.Texts.{Text, ends, byte, joined, text-length, text-within, text-is}
+use Rattle.maths.proofs.Repeat.{repeat-last}
+use Rattle.rules.proofs.Makes.{make-here, make-other}
 use Rattle.rules.proofs.CellsWritten.{no-fault, cell-written}
 
 -- X is X₀ with j cells more of dimension k, where it had none, and their bytes are those from `at` to `next`
-record Cells (s : List ℕ) (k : ℕ) (X₀ : Complex) (at j : ℕ) (X : Complex) (next : ℕ) : Type 0 where
+record Grown (s : List ℕ) (k : ℕ) (X₀ : Complex) (at j : ℕ) (X : Complex) (next : ℕ) : Type 0 where
   kept : (q : ℕ) → q ≢ k → X q ≡ X₀ q
   number : X k .n ≡ j
   text : Text s at (join j (λ j. writeCell k (λ i. X k .d i j))) next
@@ -32,8 +32,8 @@ record Section (s : List ℕ) (k : ℕ) (X₀ : Complex) (at : ℕ) (X : Complex
   text : Text s at (writeSection k X) next
 
 -- one cell more
-cells-more : {s : List ℕ} {k at j mid next : ℕ} {X₀ X : Complex} (v : Chain) → Cells s k X₀ at j X mid → Text s mid (writeCell k v) next →
-    Cells s k X₀ at (suc j) (layers (make k v X)) next
+cells-more : {s : List ℕ} {k at j mid next : ℕ} {X₀ X : Complex} (v : Chain) → Grown s k X₀ at j X mid → Text s mid (writeCell k v) next →
+    Grown s k X₀ at (suc j) (layers (make k v X)) next
 unfolding join
 cells-more {k = k} {j = j} {X = X} v c r =
     let old : join j (λ j'. writeCell k (λ i. put j (v i) (X k .d i) j')) ≡ join j (λ j'. writeCell k (λ i. X k .d i j')) =
@@ -48,7 +48,7 @@ cells-more {k = k} {j = j} {X = X} v c r =
 module _ {s : List ℕ} {Y : Complex} {used : ℕ} where
   cells-written : {at : ℕ} (k j : ℕ) (X : Complex) → k < 3 → X k .n ≤ 96 → X (suc k) .n ≡ 0 →
       (go : Place → Reading) → repeat (readCell s (suc k)) go j (X, at) ≡ taken Y used →
-      (X' : Complex) × (next : ℕ) × Cells s (suc k) X at j X' next × (go (X', next) ≡ taken Y used)
+      (X' : Complex) × (next : ℕ) × Grown s (suc k) X at j X' next × (go (X', next) ≡ taken Y used)
   unfolding join repeat
   cells-written {at} k zero X l few none go e = (X, at, record { kept = λ q h. refl; number = none; text = ends }, e)
   cells-written {at} k (suc j) X l few none go e =

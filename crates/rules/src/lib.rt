@@ -4,3 +4,4 @@ pub mod answers;
 pub mod counts;
 pub mod form;
 pub mod operator;
+pub mod refusals;

@@ -1,5 +1,5 @@
 -- A pattern of which the cells up to a place are there: how it grows by a cell, and that each next cell can be made.
-use mathlib.Core.Path.{_≡_, refl, sym, _∙_, ap, ap₂, fun-ext}
+use mathlib.Core.Path.{_≡_, refl, sym, _∙_, fun-ext}
 use mathlib.Core.Logic.{_≢_}
 use mathlib.Core.Bool.{cond}
 use Prim.Native.Nat.{ℕ, zero, suc, _<_, _≤_}
@@ -7,25 +7,17 @@ use native.Mathlib.Omega.{arith}
 use borrow.Author.Tests.{lt-ltb, le-ltb, ne-eqb}
 use lib.Dec.{eqb, ltb}
 use lib.IntN.{pos}
-use Rattle.maths.specs.Tables.{Entries}
 use Rattle.maths.proofs.Cases.{eqb-same, eq-or, lt-or}
-use Rattle.rules.specs.Complex.{Layer, Complex, Chain, bare}
-use Rattle.rules.specs.Good.{OneEach, Good}
-use Rattle.rules.specs.Edits.{kept, layers, put, make}
+use Rattle.rules.specs.Complex.{Layer, Complex, bare}
+use Rattle.rules.specs.Good.{Good}
+use Rattle.rules.specs.Edits.{layers, put, make}
 use Rattle.rules.specs.Mesh.{corners}
-use Rattle.rules.proofs.Changes.{at3-0, at3-each, put-each}
-use Rattle.rules.proofs.Frame.{frame-of}
+use Rattle.rules.proofs.Changes.{put-each}
+use Rattle.rules.proofs.Frame.{same-layer, frame-of}
+use Rattle.rules.proofs.Makes.{make-here, make-other}
 use Rattle.rules.proofs.Allowed.{CanMake}
-
--- the layers after a cell is made
-module _ (k : ℕ) (v : Chain) (X : Complex) where
-  pub make-here : layers (make k v X) k ≡ record { n = suc (X k .n); d = λ i. put (X k .n) (v i) (X k .d i) }
-  unfolding make
-  make-here = ap (λ S. S .layer) (at3-0 k (λ q. kept (X q)) _ _ _)
-
-  pub make-other : (q : ℕ) → q ≢ k → layers (make k v X) q ≡ X q
-  unfolding make
-  make-other = at3-each k (λ q. kept (X q)) _ _ _ (λ q S. q ≢ k → S .layer ≡ X q) (λ q _ _ _ _. refl) (λ n. absurd (n refl)) (λ _. refl) (λ _. refl)
+use Rattle.rules.proofs.Seams.{one-each-of}
+use Rattle.rules.proofs.Columns.{sound-at}
 
 -- the first j cells of a layer
 cut : ℕ → Layer → Layer
@@ -35,20 +27,17 @@ cut j A = record { n = j; d = λ i c. cond (ltb c j) (A .d i c) (pos 0) }
 pub upTo : Complex → ℕ → ℕ → Complex
 upTo X k j q = cond (ltb q k) (X q) (cond (eqb q k) (cut j (X q)) (bare 0))
 
-layer-is : {A B : Layer} → A .n ≡ B .n → ((i j : ℕ) → A .d i j ≡ B .d i j) → A ≡ B
-layer-is e f = ap₂ (λ (n : ℕ) (d : Entries). record { n = n; d = d }) e (fun-ext λ i. fun-ext λ j. f i j)
-
 cut-none : (A : Layer) → cut 0 A ≡ bare 0
 unfolding cut
-cut-none A = layer-is refl (λ i j. rw (le-ltb j 0 (omega arith)))
+cut-none A = same-layer refl (λ i j. rw (le-ltb j 0 (omega arith)))
 
 cut-all : {A : Layer} → ((i j : ℕ) → A .n ≤ j → A .d i j ≡ pos 0) → cut (A .n) A ≡ A
 unfolding cut
-cut-all {A} z = layer-is refl (λ i j. lt-or j (A .n) (λ h. rw (lt-ltb j (A .n) h)) (λ h. rw (le-ltb j (A .n) h) (sym (z i j h))))
+cut-all {A} z = same-layer refl (λ i j. lt-or j (A .n) (λ h. rw (lt-ltb j (A .n) h)) (λ h. rw (le-ltb j (A .n) h) (sym (z i j h))))
 
 cut-more : (j : ℕ) (A : Layer) → record { n = suc j; d = λ i. put j (A .d i j) (cut j A .d i) } ≡ cut (suc j) A
 unfolding cut
-cut-more j A = layer-is refl (λ i. put-each j (A .d i j) (λ c. cond (ltb c j) (A .d i c) (pos 0)) (λ c x. x ≡ cond (ltb c (suc j)) (A .d i c) (pos 0))
+cut-more j A = same-layer refl (λ i. put-each j (A .d i j) (λ c. cond (ltb c j) (A .d i c) (pos 0)) (λ c x. x ≡ cond (ltb c (suc j)) (A .d i c) (pos 0))
     (rw (lt-ltb j (suc j) (omega arith)))
     (λ c e. lt-or c j
     (λ h. rw (lt-ltb c j h, lt-ltb c (suc j) (omega arith)))
@@ -95,21 +84,13 @@ module _ {X : Complex} (G : Good X) where
   up-to-corners = fun-ext layer
     where
       layer : (q : ℕ) → corners (X 0 .n) q ≡ upTo X 1 0 q
-      layer zero = rw (up-to-below X 1 0 0 (omega arith)) (layer-is refl (λ i j. sym (G .ground i j)))
+      layer zero = rw (up-to-below X 1 0 0 (omega arith)) (same-layer refl (λ i j. sym (G .ground i j)))
       layer (suc q) = up-to-bare X 1 (suc q) (omega arith)
 
   pub up-to-all : upTo X 4 0 ≡ X
   up-to-all = fun-ext λ q. lt-or q 4
       (λ h. up-to-below X 4 0 q h)
-      (λ h. sym (up-to-bare X 4 q h) ∙ layer-is (sym (G .top q h)) (λ i j. sym (G .columns q i j (rw (G .top q h) (omega arith)))))
-
-  seam-at : (k j : ℕ) → j < X (suc k) .n → suc k ≡ 1 → OneEach (λ i. X (suc k) .d i j)
-  seam-at zero j h e = G .seams j h
-  seam-at (suc k) j h e = absurd (omega arith)
-
-  some-at : (k j : ℕ) → j < X (suc k) .n → 2 ≤ suc k → (i : ℕ) × (X (suc k) .d i j ≢ pos 0)
-  some-at zero j h l = absurd (omega arith)
-  some-at (suc k) j h l = G .faces k j h
+      (λ h. sym (up-to-bare X 4 q h) ∙ same-layer (sym (G .top q h)) (λ i j. sym (G .columns q i j (rw (G .top q h) (omega arith)))))
 
   pub up-to-few : (k j : ℕ) → upTo X (suc k) j k .n ≤ 96
   up-to-few k j = rw (up-to-below X (suc k) j k (omega arith)) (G .few k)
@@ -124,6 +105,6 @@ module _ {X : Complex} (G : Good X) where
     faces = λ q e. let e' : q ≡ k = omega arith in rw (e', up-to-below X (suc k) j k (omega arith)) (λ i a. G .rows k i j a);
     closed = λ q e r. let e' : q ≡ k = omega arith in rw (e', up-to-below X (suc k) j k (omega arith)) (frame-of G .fit k .null r j);
     units = λ i. G .units (suc k) i j;
-    seam = seam-at k j h;
-    some = some-at k j h;
+    seam = λ e. one-each-of (sound-at G (suc k) .cell j h .seam e .2);
+    some = sound-at G (suc k) .cell j h .some;
   }

@@ -1,4 +1,4 @@
--- After make and after flip every column is still one of its dimension.
+-- After flip every column is still one of its dimension, so the pattern is good.
 use mathlib.Core.Path.{sym, ap}
 use mathlib.Core.Logic.{_≢_}
 use Prim.Native.Nat.{ℕ, suc, _<_}
@@ -8,26 +8,10 @@ use Rattle.maths.proofs.Integers.{neg-inj}
 use Rattle.maths.proofs.Sizes.{neg-size}
 use Rattle.rules.specs.Complex.{Complex, Chain}
 use Rattle.rules.specs.Good.{Good}
-use Rattle.rules.specs.Edits.{kept, layers, make, negated, flip}
-use Rattle.rules.proofs.Changes.{at3-each}
-use Rattle.rules.proofs.Frame.{Cells}
-use Rattle.rules.proofs.Allowed.{CanMake}
-use Rattle.rules.proofs.Seams.{ends-of, Bounds, Sound, cells-from, sound-at, put-column, put-row}
-
-module _ {k : ℕ} {v : Chain} {X : Complex} (G : Good X) (C : CanMake k v X) where
-  made-bounds : Bounds k v
-  made-bounds = record {
-    seam = λ e. ends-of (C .seam e) (C .units) (λ i h. C .faces 0 (sym e) i (omega (arith, G .few 0)));
-    some = C .some;
-  }
-
-  pub make-cells : Cells (layers (make k v X))
-  unfolding make
-  make-cells = cells-from (at3-each k (λ q. kept (X q)) _ _ _ (λ q S. Sound q (S .layer))
-      (λ q _ _ _. sound-at G q)
-      (put-column (suc (X k .n)) (X k .n) v (X k .d) (G .units k) (λ j h e. sound-at G k .cell j (omega arith)) (C .units) (λ _. made-bounds))
-      (sound-at G (suc k))
-      (sound-at G (suc (suc k))))
+use Rattle.rules.specs.Edits.{layers, negated, flip}
+use Rattle.rules.proofs.Frame.{Cells, frame-of, good-of}
+use Rattle.rules.proofs.Flips.{flip-frame}
+use Rattle.rules.proofs.Columns.{Bounds, Sound, sound-at, cells-layers, put-column, put-row}
 
 neg-not-zero : {z : ℤ} → z ≢ pos 0 → negℤ z ≢ pos 0
 neg-not-zero {z} h e = h (neg-inj z (pos 0) e)
@@ -61,7 +45,9 @@ module _ {X : Complex} (k c : ℕ) (G : Good X) (positive : 0 < k) where
   unfolding negated
   flipped-row = put-row c (λ j. negℤ (X (suc k) .d c j)) (X (suc k)) (omega arith) (sound-at G (suc k)) (λ j. rw neg-size (G .units (suc k) c j)) (λ j. neg-not-zero)
 
-  pub flip-cells : Cells (layers (flip k c X))
+  flip-cells : Cells (layers (flip k c X))
   unfolding flip
-  flip-cells = cells-from (at3-each k (λ q. kept (X q)) _ _ _ (λ q S. Sound q (S .layer))
-      (λ q _ _ _. sound-at G q) flipped-column flipped-row (sound-at G (suc (suc k))))
+  flip-cells = cells-layers G k _ _ _ flipped-column flipped-row (sound-at G (suc (suc k)))
+
+  pub good-flipped : Good (layers (flip k c X))
+  good-flipped = good-of (flip-frame k c (frame-of G)) flip-cells

@@ -1,4 +1,4 @@
--- Bytes that stand at a place of a longer list, and the laws by which texts follow one another there.
+-- Texts: bytes that stand at a place of a longer list, and how they follow one another there.
 use mathlib.Core.Path.{_≡_, refl}
 use mathlib.Core.List.{List, [], _∷_, _++_}
 use Prim.Native.Nat.{ℕ, suc, _+_, _<_, _≤_}

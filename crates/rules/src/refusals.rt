@@ -1,0 +1,36 @@
+// Numbers given back, by the names of specs/Refusals.antt. 0 means accepted.
+pub const ACCEPTED: u8 = 0;
+
+pub const WRONG_LENGTH: u8 = 1;
+
+pub const NOT_GOOD: u8 = 2;
+
+pub const BYTES_END: u8 = 3;
+
+pub const WRONG_FORM: u8 = 4;
+
+pub const NO_SUCH_CELL: u8 = 5;
+
+pub const NO_ROOM: u8 = 6;
+
+pub const NOT_CLOSED: u8 = 7;
+
+pub const IN_USE: u8 = 8;
+
+pub const WRONG_PART: u8 = 9;
+
+pub const WRONG_DIVIDER: u8 = 10;
+
+pub const NOT_BETWEEN: u8 = 11;
+
+pub const WRONG_SUM: u8 = 12;
+
+pub const STALE: u8 = 13;
+
+pub const BYTES_LEFT: u8 = 14;
+
+pub const SHORT_OUTPUT: u8 = 15;
+
+pub const WRONG_CHAIN: u8 = 16;
+
+pub const NOT_CARRIED: u8 = 17;
