@@ -10,12 +10,13 @@ use std::time::Instant;
 fn full_mesh() -> Vec<u8> {
     let mut s = vec![96, 96];
     s.extend([0, 1].repeat(96));
-    for _ in 0..2 {
+    // Panel j is ± the same ring, by turns; in a block all panels have one sign.
+    for alternating in [1, 0] {
         s.push(96);
         for j in 0..96u8 {
             s.push(96);
             for i in 0..96u8 {
-                s.extend([i, 1 + (i + j) % 2]);
+                s.extend([i, 1 + (alternating * i + j) % 2]);
             }
         }
     }

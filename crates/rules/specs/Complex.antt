@@ -13,6 +13,9 @@ pub record Pattern : Type 0 where
   pub m2 : List ℤ
   pub m3 : List ℤ
 
+abbrev pub pattern : Counts → List ℤ → List ℤ → List ℤ → Pattern
+pattern c m1 m2 m3 = record { counts = c; m1 = m1; m2 = m2; m3 = m3 }
+
 -- The cells of one dimension k: how many, and matrix k. "A row per cell of dimension k-1 and a column per cell of dimension k."
 pub record Layer : Type 0 where
   pub n : ℕ

@@ -1,0 +1,5 @@
+pub mod Tests
+pub mod Places
+pub mod Sums
+pub mod PartialSums
+pub mod Parts

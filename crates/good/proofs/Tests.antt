@@ -1,0 +1,82 @@
+-- Loops that test every number below a bound; such a test in two parts, and column by column.
+use mathlib.Core.Path.{_≡_, refl, sym, ap, _∙_}
+use mathlib.Core.Bool.{Bool, true, false, cond, _&&_}
+use Prim.Native.Nat.{ℕ, zero, suc, _+_, _*_, _-_, _<_, _≤_, _^_}
+use native.Mathlib.Nat.{add-zero, add-suc}
+use native.Mathlib.Numerals.{add-one}
+use native.Mathlib.Omega.{arith}
+use mir.Syntax.{w8}
+use mir.Val.{Fits, boolByte}
+use Rattle.maths.specs.Tests.{all, count}
+use Rattle.maths.proofs.Cases.{by-bool}
+use Rattle.maths.proofs.Tests.{all-none, all-more, all-not, count-le}
+
+-- a loop that ends at the first of n numbers that fails: those below i have passed
+pub record Passed (p : ℕ → Bool) (n i : ℕ) : Type 0 where
+  pub upto : i ≤ n
+  pub so : all i p ≡ true
+
+pub passed-none : (p : ℕ → Bool) (n : ℕ) → Passed p n 0
+passed-none p n = record { upto = omega arith; so = all-none p }
+
+module _ {p : ℕ → Bool} {n i : ℕ} (s : Passed p n i) where
+  pub passed-more : i < n → p i ≡ true → Passed p n (i + 1)
+  passed-more h e = record { upto = omega arith; so = all-more i p (s .so) e }
+
+  pub passed-not : i < n → p i ≡ false → false ≡ all n p
+  passed-not h e = sym (all-not n p i h e)
+
+  pub passed-all : n ≤ i → true ≡ all n p
+  passed-all h = let e : i ≡ n = omega arith in sym (rw e at (s .so))
+
+-- a loop that joins the tests of n numbers: `ok` is that of those below i
+pub record Joined (p : ℕ → Bool) (n : ℕ) (ok : Bool) (i : ℕ) : Type 0 where
+  pub upto : i ≤ n
+  pub is : ok ≡ all i p
+
+pub joined-none : (p : ℕ → Bool) (n : ℕ) → Joined p n true 0
+joined-none p n = record { upto = omega arith; is = sym (all-none p) }
+
+module _ {p : ℕ → Bool} {n i : ℕ} {ok : Bool} (s : Joined p n ok i) where
+  pub joined-more : {t : Bool} → i < n → t ≡ p i → Joined p n (ok && t) (i + 1)
+  unfolding all
+  joined-more h e = record { upto = omega arith; is = rw (s .is, e, add-one) }
+
+  pub joined-all : n ≤ i → ok ≡ all n p
+  joined-all h = let e : i ≡ n = omega arith in rw e at (s .is)
+
+-- a turn of a loop that counts the tests that pass
+module _ {n : ℕ} (i : ℕ) (p : ℕ → Bool) (e : n ≡ count i p) where
+  pub count-turn : {t : Bool} → t ≡ p i → n + boolByte t ≡ count (i + 1) p
+  unfolding count
+  count-turn f = rw (e, f, add-one) (by-bool (p i) (λ t. count i p + boolByte t ≡ count i p + cond t 1 0) (λ _. refl) (λ _. refl))
+
+  pub count-fits : (t : Bool) → i < 96 → Fits w8 (n + boolByte t)
+  count-fits t h =
+      record { fits = by-bool t (λ t. n + boolByte t < 2 ^ 8) (λ _. omega (arith, count-le i p)) (λ _. omega (arith, count-le i p)) }
+
+pub and-true : (a : Bool) → a && true ≡ a
+and-true true = refl
+and-true false = refl
+
+pub and-assoc : (a b c : Bool) → (a && b) && c ≡ a && (b && c)
+and-assoc true b c = refl
+and-assoc false b c = refl
+
+-- the first n, and k more
+all-+ : (n k : ℕ) (p : ℕ → Bool) → all (n + k) p ≡ all n p && all k (λ i. p (n + i))
+unfolding all
+all-+ n zero p = rw add-zero (sym (and-true (all n p)))
+all-+ n (suc k) p = rw (add-suc, all-+ n k p) (and-assoc (all n p) (all k (λ i. p (n + i))) (p (n + k)))
+
+-- the first n of k, and the rest
+pub all-split : (n k : ℕ) (p : ℕ → Bool) → n ≤ k → all k p ≡ all n p && all (k - n) (λ i. p (n + i))
+all-split n k p h = ap (λ k. all k p) (omega arith) ∙ all-+ n (k - n) p
+
+-- n columns of 96, one after the other
+pub all-columns : (n : ℕ) (p : ℕ → Bool) → all n (λ j. all 96 (λ i. p (96 * j + i))) ≡ all (96 * n) p
+unfolding all
+all-columns zero p = refl
+all-columns (suc n) p =
+    let e : 96 * n + 96 ≡ 96 * suc n = omega arith in
+    rw (all-columns n p) (sym (all-+ (96 * n) 96 p) ∙ ap (λ k. all k p) e)

@@ -1,0 +1,39 @@
+-- `good::pattern::is_good` meets its contract: counts that are few, and the rest of the test, make the test.
+use mathlib.Core.Path.{sym, _∙_}
+use borrow.Author.Needs.{needs}
+use Rattle.rules.specs.Complex.{Pattern}
+use Rattle.good.proofs.Parts.{Counted, good-few, good-cells, stored}
+use Rattle.good.proofs.pattern.is_good.Statement.{statement}
+use Rattle.good.proofs.pattern.is_good.Tie as tie
+
+-- the pattern that is tested
+abbrev pattern : tie.Start → Pattern
+pattern s = record { counts = s .args .c; m1 = s .args .m1 .now; m2 = s .args .m2 .now; m3 = s .args .m3 .now }
+
+counted : (c : tie.After-count4) → Counted (pattern (c .before .before .before .before .before .before))
+    (c .before .before .before .count .result) (c .before .before .count2 .result) (c .before .count3 .result) (c .count4 .result)
+counted c =
+    let a = c .before .before .before in
+    record {
+      corners = a .count .ensures;
+      seams = c .before .before .count2 .ensures;
+      panels = c .before .count3 .ensures;
+      blocks = c .count4 .ensures;
+      few = sym (a .before .before .few .ensures) ∙ a .before .if1 .taken;
+    }
+
+is-sound-requires : tie.Need-is-sound-requires
+is-sound-requires c κs = stored (counted c) (c .before .before .before .before .before .before .pre)
+
+returns : tie.Need-returns
+returns c = rw (good-cells (counted (c .before))) (c .is-sound .ensures)
+
+returns-2 : tie.Need-returns-2
+returns-2 c =
+    let f = c .before in
+    c .if1 .left ∙ sym (good-few (pattern (f .before)) (sym (f .few .ensures) ∙ c .if1 .left))
+
+pub is-good-spec : {M : Type 1} → statement M
+is-good-spec =
+    tie.close (tie.spec (λ c κs. tt) (λ c κs. search needs) (λ c κs. search needs) (λ c κs. search needs) (λ c κs. search needs)
+    is-sound-requires returns returns-2)

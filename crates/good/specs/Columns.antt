@@ -1,0 +1,55 @@
+-- What the tests of one and of two stored matrices say, column by column, and what each needs.
+use mathlib.Core.Path.{_≡_}
+use mathlib.Core.Bool.{Bool, _&&_}
+use mathlib.Core.List.{List}
+use Prim.Native.Nat.{ℕ, _+_, _-_, _<_, _≤_}
+use lib.IntN.{ℤ, pos, natAbs, _+ℤ_}
+use lib.ListN.{length, getD}
+use Rattle.maths.specs.Tests.{isZero, isUnit, all}
+use Rattle.maths.specs.Tables.{table, entries}
+use Rattle.rules.specs.Complex.{Layer, Chain}
+
+-- the cells whose matrix is stored in m
+abbrev pub layer : ℕ → List ℤ → Layer
+layer n m = record { n = n; d = entries m }
+
+-- the entries from a place on: from 96 * j, column j
+abbrev pub run : List ℤ → ℕ → Chain
+run m from i = getD m (from + i) (pos 0)
+
+-- the column at a place: -1, 0 or 1 in the rows below the count, and 0 past it
+unfoldable pub columnInPlace : List ℤ → ℕ → ℕ → Bool
+columnInPlace m from rows = all rows (λ i. isUnit (run m from i)) && all (96 - rows) (λ i. isZero (run m (from + rows) i))
+
+-- 96 sums, to each of which its part of v is added
+unfoldable pub plus : List ℤ → Chain → List ℤ
+plus sums v = table 96 (λ i. getD sums i (pos 0) +ℤ v i)
+
+-- a stored matrix, the first n columns of which are in use
+pub record Columns (m : List ℤ) (n : ℕ) : Type 0 where
+  pub size : length m ≡ 9216
+  pub few : n ≤ 96
+
+-- the same, with its rows in use
+pub record Matrix (m : List ℤ) (rows n : ℕ) : Type 0 where
+  pub columns : Columns m n
+  pub short : rows ≤ 96
+
+-- a column of 96, of which some rows are in use
+pub record Column (m : List ℤ) (from rows : ℕ) : Type 0 where
+  pub inside : from + 96 ≤ length m
+  pub short : rows ≤ 96
+
+-- 96 small sums, and a column that can be added to them
+pub record Addable (sums m : List ℤ) (from : ℕ) : Type 0 where
+  pub size : length sums ≡ 96
+  pub inside : from + 96 ≤ length m
+  pub small : (i : ℕ) → i < 96 → natAbs (getD sums i (pos 0)) ≤ 96
+  pub unit : (i : ℕ) → i < 96 → natAbs (run m from i) ≤ 1
+
+-- two neighbouring matrices of -1, 0 and 1, and how many columns of the lower one are in use
+pub record Neighbours (low high : List ℤ) (between : ℕ) : Type 0 where
+  pub lower : Columns low between
+  pub size : length high ≡ 9216
+  pub lowerUnit : (i j : ℕ) → natAbs (entries low i j) ≤ 1
+  pub upperUnit : (i j : ℕ) → natAbs (entries high i j) ≤ 1

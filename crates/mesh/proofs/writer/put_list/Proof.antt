@@ -1,0 +1,26 @@
+-- `mesh::writer::put_list` meets its contract: the faces are put after the place of the count, which is half of how long they are.
+use native.Mathlib.Omega.{arith}
+use borrow.Author.Needs.{needs}
+use Rattle.mesh.specs.Writing.{column}
+use Rattle.maths.proofs.Buffers.{byte-before}
+use Rattle.mesh.proofs.CellTexts.{faces-between, faces-most}
+use Rattle.mesh.proofs.writer.put_list.Statement.{statement}
+use Rattle.mesh.proofs.writer.put_list.Tie as tie
+
+cast-out : tie.Need-cast-out
+cast-out c =
+    let faces = c .before .before in
+    let start = faces .before .before .before in
+    let v = column (start .args .m .now) (start .args .j) in
+    omega (arith, faces-between v (start .args .at) (faces .put-faces .ensures .place), faces-most v)
+
+returns : tie.Need-returns
+returns c =
+    let faces = c .before .before in
+    let start = faces .before .before .before in
+    let v = column (start .args .m .now) (start .args .j) in
+    rw (← faces-between v (start .args .at) (faces .put-faces .ensures .place)) (byte-before _ (omega arith) (faces .put-faces .ensures))
+
+pub put-list-spec : {M : Type 1} → statement M
+put-list-spec =
+    tie.close (tie.spec (λ c. search needs) (λ c κs. search needs) (λ c. search needs) cast-out (λ c. search needs) (λ c. search needs) returns)

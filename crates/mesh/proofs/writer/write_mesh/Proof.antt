@@ -1,0 +1,31 @@
+-- `mesh::writer::write_mesh` meets its contract: each return is one of the writer's answers.
+use mathlib.Core.Path.{_≡_, sym, _∙_}
+use native.Mathlib.Omega.{arith}
+use borrow.Author.Needs.{needs}
+use Rattle.rules.specs.Refusals.{accepted}
+use Rattle.rules.specs.Complex.{Pattern}
+use Rattle.good.specs.Tested.{tested}
+use Rattle.rules.specs.Complex.{pattern}
+use Rattle.mesh.proofs.Answers.{writable, refused-pattern, refused-buffer, written}
+use Rattle.mesh.proofs.writer.write_mesh.Statement.{statement}
+use Rattle.mesh.proofs.writer.write_mesh.Tie as tie
+
+-- the pattern that was lent
+abbrev lent : tie.Start → Pattern
+lent start = pattern (start .args .c) (start .args .m1 .now) (start .args .m2 .now) (start .args .m3 .now)
+
+-- it passed its test
+passed : (c : tie.Else1) → tested (lent (c .before .before .before)) ≡ accepted
+passed c = sym (c .before .refusal-of-pattern .ensures) ∙ c .if1 .left
+
+pub write-mesh-spec : {M : Type 1} → statement M
+write-mesh-spec =
+    tie.close
+    (tie.spec
+    (λ c κs. search needs)
+    (λ c. refused-pattern _ _ (c .before .refusal-of-pattern .ensures) (c .if1 .taken))
+    (λ c κs. writable _ (passed c))
+    (λ c. refused-buffer _ _ (passed (c .before .before)) (omega arith))
+    (λ c κs. record { writable = writable _ (passed (c .before .before .before)); room = omega arith })
+    (λ c. search needs)
+    (λ c. let put = c .before .before in written _ _ (passed (put .before .before .before .before)) (omega arith) (put .put-mesh .ensures)))

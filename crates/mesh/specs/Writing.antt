@@ -1,0 +1,69 @@
+-- The texts of a mesh by stored matrix, and what it is to put a text into a buffer.
+use mathlib.Core.Path.{_≡_}
+use mathlib.Core.Bool.{not, cond}
+use mathlib.Core.List.{List, [], _∷_, _++_}
+use Prim.Native.Nat.{ℕ, _+_, _<_, _≤_}
+use lib.IntN.{ℤ}
+use lib.ListN.{length, take, drop}
+use Rattle.maths.specs.Tests.{isZero, count}
+use Rattle.maths.specs.Sums.{join}
+use Rattle.maths.specs.Tables.{entries}
+use Rattle.maths.specs.Buffers.{Fits}
+use Rattle.rules.specs.Complex.{Pattern, Chain, complex}
+use Rattle.rules.specs.Mesh.{tailOf, headOf, pair, eachFace, writeCell, writeMesh}
+
+-- column j of a stored matrix
+abbrev pub column : List ℤ → ℕ → Chain
+column m j i = entries m i j
+
+-- face i of a list, whose entry is z: nothing where that is 0
+unfoldable pub face : ℕ → ℤ → List ℕ
+face i z = cond (isZero z) [] (pair i z)
+
+-- how many faces a cell has
+abbrev pub faceCount : Chain → ℕ
+faceCount v = count 96 (λ i. not (isZero (v i)))
+
+-- a seam, and a cell of a higher dimension
+abbrev pub seamText : Chain → List ℕ
+seamText v = tailOf v ∷ headOf v ∷ []
+
+abbrev pub listText : Chain → List ℕ
+listText v = faceCount v ∷ eachFace pair v
+
+-- the first n cells of dimension k
+unfoldable pub cells : ℕ → List ℤ → ℕ → List ℕ
+cells k m n = join n (λ j. writeCell k (column m j))
+
+-- their section: how many, and the cells
+abbrev pub sectionText : ℕ → List ℤ → ℕ → List ℕ
+sectionText k m n = n ∷ cells k m n
+
+-- column j of a stored matrix, and room for its text
+pub record ColumnFits (m : List ℤ) (j : ℕ) (out : List ℕ) (at : ℕ) (text : List ℕ) : Type 0 where
+  pub size : length m ≡ 9216
+  pub inside : j < 96
+  pub room : Fits out at text
+
+-- the first n columns of a stored matrix
+pub record Columns (m : List ℤ) (n : ℕ) : Type 0 where
+  pub size : length m ≡ 9216
+  pub few : n ≤ 96
+
+-- the same, and room for their text
+pub record ColumnsFit (m : List ℤ) (n : ℕ) (out : List ℕ) (at : ℕ) (text : List ℕ) : Type 0 where
+  pub size : length m ≡ 9216
+  pub few : n ≤ 96
+  pub room : Fits out at text
+
+-- a pattern of three stored matrices, with counts of at most 96
+pub record Writable (p : Pattern) : Type 0 where
+  pub size1 : length (p .m1) ≡ 9216
+  pub size2 : length (p .m2) ≡ 9216
+  pub size3 : length (p .m3) ≡ 9216
+  pub few : (k : ℕ) → complex p k .n ≤ 96
+
+-- the same, and room for its mesh
+pub record MeshFits (p : Pattern) (out : List ℕ) : Type 0 where
+  pub writable : Writable p
+  pub room : Fits out 0 (writeMesh (complex p))

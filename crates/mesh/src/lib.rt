@@ -1,0 +1,2 @@
+// Reading and writing a mesh.
+pub mod writer;
