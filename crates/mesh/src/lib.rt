@@ -1,2 +1,4 @@
 // Reading and writing a mesh.
+mod cells;
+pub mod reader;
 pub mod writer;

@@ -1,0 +1,69 @@
+-- `mesh::reader::read_mesh` meets its contract: lengths first; then what is read is taken as it is held, or refused, and then all is cleared again.
+use mathlib.Core.Path.{_≡_, refl, sym, _∙_}
+use mathlib.Core.Bool.{true}
+use borrow.Author.Needs.{needs}
+use borrow.Author.Tests.{not-true, not-false}
+use Rattle.rules.specs.Complex.{Pattern, countsOf, empty}
+use Rattle.rules.specs.Calls.{sized}
+use Rattle.rules.specs.Complex.{pattern}
+use Rattle.mesh.proofs.Wholes.{sized-long, wrong-length, mesh-taken, mesh-refused}
+use Rattle.mesh.proofs.reader.read_mesh.Statement.{statement}
+use Rattle.mesh.proofs.reader.read_mesh.Tie as tie
+
+-- the matrices at entry
+abbrev entry : (c : tie.Start) → Pattern
+entry c = let a = c .args in pattern (countsOf empty) (a .m1 .now) (a .m2 .now) (a .m3 .now)
+
+short : tie.Need-returns
+short c =
+    let call = c .before .before in
+    let start = call .before .before .before .before .before in
+    wrong-length (start .args .s .now) (entry start) (sym (call .are-sized .ensures) ∙ not-true _ (c .before .if1 .taken)) (c .refused .ensures)
+
+long : (c : tie.Else1) → sized (entry (c .before .before .before .before .before .before)) ≡ true
+long c = sym (c .before .are-sized .ensures) ∙ not-false _ (c .if1 .left)
+
+first-cleared : tie.Need-clear-all-requires
+first-cleared c κs =
+    let test = c .before .before .before in
+    let a = test .before .before .before .before .before .before .args in
+    sized-long (countsOf empty) (a .m1 .now) (a .m2 .now) (a .m3 .now) (long test)
+
+not-taken : tie.Need-returns-2
+not-taken c =
+    let cleared = c .before .before .before .before in
+    let test = cleared .before .before .before .before in
+    let call = test .before .before .before .before .before in
+    let first = call .before .before .before .before .before .before .before .before .before .before .before in
+    let start = first .before .before .before .before .before .before in
+    mesh-refused (start .args .s .now) (entry start) (long first) (call .read-sections .ensures) (test .if2 .taken) (cleared .clear-all2 .ensures) (c .refused2 .ensures)
+
+taken : tie.Need-returns-3
+taken c =
+    let call = c .before .before .before .before .before in
+    let first = call .before .before .before .before .before .before .before .before .before .before .before in
+    let start = first .before .before .before .before .before .before in
+    mesh-taken (start .args .s .now) (entry start) (long first) (call .read-sections .ensures) refl (c .if2 .left)
+
+pub read-mesh-spec : {M : Type 1} → statement M
+read-mesh-spec =
+    tie.close
+    (tie.spec
+    (λ c κs. search needs)
+    (λ c κs. search needs)
+    (λ c. search needs)
+    (λ c. search needs)
+    (λ c. search needs)
+    short
+    first-cleared
+    (λ c κs. search needs)
+    (λ c κs. search needs)
+    (λ c κs. search needs)
+    (λ c. search needs)
+    (λ c. search needs)
+    (λ c. search needs)
+    not-taken
+    (λ c. search needs)
+    (λ c. search needs)
+    (λ c. search needs)
+    taken)

@@ -1,0 +1,71 @@
+-- What each part of the reading of a mesh needs and leaves.
+use mathlib.Core.Path.{_≡_}
+use mathlib.Core.Logic.{_≢_}
+use mathlib.Core.List.{List}
+use Prim.Native.Nat.{ℕ, zero, suc, _≤_}
+use lib.IntN.{ℤ, pos}
+use lib.ListN.{length}
+use Rattle.maths.specs.Tables.{tab}
+use Rattle.rules.specs.declared.counts.Counts.{Counts}
+use Rattle.rules.specs.declared.answers.MeshRead.{MeshRead}
+use Rattle.rules.specs.Refusals.{accepted}
+use Rattle.rules.specs.Complex.{Pattern, complex}
+use Rattle.rules.specs.Mesh.{Reading, taken, Place, readSection, readMesh, afterReading}
+use Rattle.rules.specs.Complex.{pattern}
+use Rattle.operators.specs.Held.{Held}
+
+-- a good pattern, and a dimension
+pub record Readable (k : ℕ) (p : Pattern) : Type 0 where
+  pub dim : k ≤ 3
+  pub held : Held p
+
+-- three matrices of the right length
+pub record Long (m1 m2 m3 : List ℤ) : Type 0 where
+  pub long1 : length m1 ≡ 9216
+  pub long2 : length m2 ≡ 9216
+  pub long3 : length m3 ≡ 9216
+
+-- three matrices of zeros, and a pattern of them
+pub record Zeros (m1 m2 m3 : List ℤ) : Type 0 where
+  pub zero1 : m1 ≡ tab (λ i j. pos 0)
+  pub zero2 : m2 ≡ tab (λ i j. pos 0)
+  pub zero3 : m3 ≡ tab (λ i j. pos 0)
+
+abbrev pub zeros : Counts → Pattern
+zeros c = let zero = tab (λ i j. pos 0) in pattern c zero zero zero
+
+-- the number by which a reading is refused
+abbrev pub refusalOf : Reading → ℕ
+refusalOf x = afterReading x (λ r. r) (λ X used. accepted)
+
+-- a part of the reading that is refused by r, whatever is to follow
+pub record Ends (part : (Place → Reading) → Reading) (r : ℕ) : Type 0 where
+  pub last : Reading
+  pub is : (go : Place → Reading) → part go ≡ last
+  pub number : refusalOf last ≡ r
+
+-- after a part of the reading: it hands on the pattern that is held and the next place, or it is refused
+pub record Went (part : (Place → Reading) → Reading) (r : MeshRead) (q : Pattern) : Type 0 where
+  pub held : Held q
+  pub goes : r .refusal ≡ accepted → (go : Place → Reading) → part go ≡ go (complex q, r .used)
+  pub ends : r .refusal ≢ accepted → Ends part (r .refusal)
+
+-- what is left to read from dimension k on
+unfoldable pub from : List ℕ → ℕ → Place → Reading
+from s zero x = taken (x .0) (x .1)
+from s (suc zero) x = readSection s 1 x λ y. readSection s 2 y λ z. readSection s 3 z λ w. taken (w .0) (w .1)
+from s (suc (suc zero)) x = readSection s 2 x λ y. readSection s 3 y λ z. taken (z .0) (z .1)
+from s (suc (suc (suc zero))) x = readSection s 3 x λ y. taken (y .0) (y .1)
+from s (suc (suc (suc (suc k)))) x = taken (x .0) (x .1)
+
+-- the mesh is read up to dimension k, or it is refused
+pub record Sofar (s : List ℕ) (k : ℕ) (r : MeshRead) (q : Pattern) : Type 0 where
+  pub held : Held q
+  pub goes : r .refusal ≡ accepted → readMesh s ≡ from s k (complex q, r .used)
+  pub ends : r .refusal ≢ accepted → refusalOf (readMesh s) ≡ r .refusal
+
+-- and dimension k is the next to be read
+pub record Next (s : List ℕ) (k : ℕ) (r : MeshRead) (q : Pattern) : Type 0 where
+  pub least : 1 ≤ k
+  pub most : k ≤ 3
+  pub sofar : Sofar s k r q

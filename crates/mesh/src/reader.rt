@@ -1,0 +1,91 @@
+// Reading a mesh: the corner count, and the sections of seams, panels and blocks.
+ghost use mathlib.Core.Path.{_≡_};
+ghost use Prim.Native.Nat.{_+_};
+ghost use Rattle.rules.specs.Complex.{countsOf, empty};
+ghost use Rattle.rules.specs.Calls.{lent, sized, noMesh, readCall};
+ghost use Rattle.rules.specs.Complex.{pattern};
+ghost use Rattle.mesh.specs.Reading.{zeros, Long, Zeros, Sofar, Next};
+use crate::cells::read_section;
+use form::fields::{byte_form, refusal_of};
+use grid::changes::clear;
+use rules::refusals::{ACCEPTED, WRONG_LENGTH};
+use rules::answers::MeshRead;
+use rules::counts::Counts;
+use rules::form::Field;
+
+// No mesh: counts 0, and 0 bytes used.
+fn refused(refusal: u8) -> MeshRead
+    ensures { λ r. ⌜ r ≡ noMesh refusal ⌝ }
+{
+    let none = Counts { n: [0, 0, 0, 0] };
+    MeshRead { counts: none, used: 0, refusal }
+}
+
+// The corner count.
+fn read_corners(s: &[u8]) -> MeshRead
+    ensures { λ r. ⌜ Sofar (now (s .entry)) 1 r (zeros (r .counts)) ⌝ }
+{
+    match byte_form(s, 0, 0, 96) {
+        Field::Bad(f) => refused(refusal_of(f)),
+        Field::Got(n) => {
+            let corners = Counts { n: [n as u8, 0, 0, 0] };
+            MeshRead { counts: corners, used: 1, refusal: ACCEPTED }
+        }
+    }
+}
+
+// The section of dimension k, if those before it were read.
+fn read_next(before: MeshRead, k: u8, s: &[u8], m1: &mut [i8], m2: &mut [i8], m3: &mut [i8]) -> MeshRead
+    requires { ⌜ Next (now s) k before (pattern (before .counts) (now m1) (now m2) (now m3)) ⌝ }
+    ensures { λ r. ⌜ Sofar (now (s .entry)) (k + 1) r (pattern (r .counts) (now (m1 .exit)) (now (m2 .exit)) (now (m3 .exit))) ⌝ }
+{
+    if before.refusal != ACCEPTED {
+        return before;
+    }
+    let c = before.counts;
+    read_section(c, k, s, before.used, m1, m2, m3)
+}
+
+// All of the mesh, into matrices of zeros.
+fn read_sections(s: &[u8], m1: &mut [i8], m2: &mut [i8], m3: &mut [i8]) -> MeshRead
+    requires { ⌜ Zeros (now m1) (now m2) (now m3) ⌝ }
+    ensures { λ r. ⌜ Sofar (now (s .entry)) 4 r (pattern (r .counts) (now (m1 .exit)) (now (m2 .exit)) (now (m3 .exit))) ⌝ }
+{
+    let corners = read_corners(s);
+    let seams = read_next(corners, 1, s, m1, m2, m3);
+    let panels = read_next(seams, 2, s, m1, m2, m3);
+    read_next(panels, 3, s, m1, m2, m3)
+}
+
+// Whether each matrix has 9,216 entries.
+fn are_sized(m1: &[i8], m2: &[i8], m3: &[i8]) -> bool
+    ensures { λ r. ⌜ r ≡ sized (pattern (countsOf empty) (now (m1 .entry)) (now (m2 .entry)) (now (m3 .entry))) ⌝ }
+{
+    (m1.len() == 9216) & (m2.len() == 9216) & (m3.len() == 9216)
+}
+
+// Every entry of the three matrices becomes 0.
+fn clear_all(m1: &mut [i8], m2: &mut [i8], m3: &mut [i8])
+    requires { ⌜ Long (now m1) (now m2) (now m3) ⌝ }
+    ensures { λ _. ⌜ Zeros (now (m1 .exit)) (now (m2 .exit)) (now (m3 .exit)) ⌝ }
+{
+    clear(m1);
+    clear(m2);
+    clear(m3);
+}
+
+// Reads a mesh into three matrices. Every refusal but that of their lengths leaves them zero.
+pub fn read_mesh(s: &[u8], m1: &mut [i8], m2: &mut [i8], m3: &mut [i8]) -> MeshRead
+    ensures { λ r. ⌜ lent r (pattern (r .counts) (now (m1 .exit)) (now (m2 .exit)) (now (m3 .exit))) ≡ readCall (now (s .entry)) (pattern (countsOf empty) (now (m1 .entry)) (now (m2 .entry)) (now (m3 .entry))) ⌝ }
+{
+    if !are_sized(m1, m2, m3) {
+        return refused(WRONG_LENGTH);
+    }
+    clear_all(m1, m2, m3);
+    let read = read_sections(s, m1, m2, m3);
+    if read.refusal != ACCEPTED {
+        clear_all(m1, m2, m3);
+        return refused(read.refusal);
+    }
+    read
+}

@@ -1,0 +1,4 @@
+pub mod Held
+pub mod Column
+pub mod Boundary
+pub mod Append

@@ -1,0 +1,5 @@
+// The five operators on a good pattern.
+mod append;
+mod boundary;
+mod faces;
+pub mod make;
