@@ -4,31 +4,58 @@ ghost use Rattle.rules.specs.Complex.{complex};
 ghost use Rattle.rules.specs.Mesh.{readCell, readSection};
 ghost use Rattle.rules.specs.Complex.{pattern};
 ghost use Rattle.mesh.specs.Reading.{Readable, Went};
-use form::fields::{byte_form, refusal_of};
+use form::fields::byte_form;
+use form::fields::refusal_of;
 use form::operators::make_form;
 use operators::make::make;
-use rules::refusals::ACCEPTED;
 use rules::answers::MeshRead;
 use rules::counts::Counts;
-use rules::form::{Field, OperatorForm};
+use rules::form::Field;
+use rules::form::OperatorForm;
+use rules::refusals::ACCEPTED;
 
 // The cell of dimension k at `at`; `used` is the place after it.
-fn read_cell(c: Counts, k: u8, s: &[u8], at: usize, m1: &mut [i8], m2: &mut [i8], m3: &mut [i8]) -> MeshRead
+fn read_cell(
+    c: Counts,
+    k: u8,
+    s: &[u8],
+    at: usize,
+    m1: &mut [i8],
+    m2: &mut [i8],
+    m3: &mut [i8],
+) -> MeshRead
     requires { ⌜ Readable k (pattern c (now m1) (now m2) (now m3)) ⌝ }
     ensures { λ r. ⌜ Went (readCell (now (s .entry)) k (complex (pattern c (now (m1 .entry)) (now (m2 .entry)) (now (m3 .entry))), at)) r (pattern (r .counts) (now (m1 .exit)) (now (m2 .exit)) (now (m3 .exit))) ⌝ }
 {
     match make_form(s, k, at) {
-        OperatorForm::Bad(f) => MeshRead { counts: c, used: at, refusal: refusal_of(f) },
+        OperatorForm::Bad(f) => MeshRead {
+            counts: c,
+            used: at,
+            refusal: refusal_of(f),
+        },
         OperatorForm::Decoded(_, next) => {
             let made = make(c, k, s, at, m1, m2, m3);
             let counts = made.counts;
-            MeshRead { counts, used: next, refusal: made.refusal }
+            MeshRead {
+                counts,
+                used: next,
+                refusal: made.refusal,
+            }
         }
     }
 }
 
 // n cells of dimension k from `at` on.
-fn read_cells(c: Counts, k: u8, n: usize, s: &[u8], at: usize, m1: &mut [i8], m2: &mut [i8], m3: &mut [i8]) -> MeshRead
+fn read_cells(
+    c: Counts,
+    k: u8,
+    n: usize,
+    s: &[u8],
+    at: usize,
+    m1: &mut [i8],
+    m2: &mut [i8],
+    m3: &mut [i8],
+) -> MeshRead
     requires { ⌜ Readable k (pattern c (now m1) (now m2) (now m3)) ⌝ }
     ensures { λ r. ⌜ Went (λ go. repeat (readCell (now (s .entry)) k) go n (complex (pattern c (now (m1 .entry)) (now (m2 .entry)) (now (m3 .entry))), at)) r (pattern (r .counts) (now (m1 .exit)) (now (m2 .exit)) (now (m3 .exit))) ⌝ }
 {
@@ -45,16 +72,32 @@ fn read_cells(c: Counts, k: u8, n: usize, s: &[u8], at: usize, m1: &mut [i8], m2
         place = cell.used;
         left -= 1;
     }
-    MeshRead { counts, used: place, refusal: ACCEPTED }
+    MeshRead {
+        counts,
+        used: place,
+        refusal: ACCEPTED,
+    }
 }
 
 // A count at `at`, and that many cells of dimension k.
-pub(crate) fn read_section(c: Counts, k: u8, s: &[u8], at: usize, m1: &mut [i8], m2: &mut [i8], m3: &mut [i8]) -> MeshRead
+pub(crate) fn read_section(
+    c: Counts,
+    k: u8,
+    s: &[u8],
+    at: usize,
+    m1: &mut [i8],
+    m2: &mut [i8],
+    m3: &mut [i8],
+) -> MeshRead
     requires { ⌜ Readable k (pattern c (now m1) (now m2) (now m3)) ⌝ }
     ensures { λ r. ⌜ Went (readSection (now (s .entry)) k (complex (pattern c (now (m1 .entry)) (now (m2 .entry)) (now (m3 .entry))), at)) r (pattern (r .counts) (now (m1 .exit)) (now (m2 .exit)) (now (m3 .exit))) ⌝ }
 {
     match byte_form(s, at, 0, 96) {
-        Field::Bad(f) => MeshRead { counts: c, used: at, refusal: refusal_of(f) },
+        Field::Bad(f) => MeshRead {
+            counts: c,
+            used: at,
+            refusal: refusal_of(f),
+        },
         Field::Got(n) => read_cells(c, k, n, s, at + 1, m1, m2, m3),
     }
 }

@@ -6,19 +6,25 @@ ghost use Rattle.rules.specs.Calls.{lent, sized, noMesh, readCall};
 ghost use Rattle.rules.specs.Complex.{pattern};
 ghost use Rattle.mesh.specs.Reading.{zeros, Long, Zeros, Sofar, Next};
 use crate::cells::read_section;
-use form::fields::{byte_form, refusal_of};
+use form::fields::byte_form;
+use form::fields::refusal_of;
 use grid::changes::clear;
-use rules::refusals::{ACCEPTED, WRONG_LENGTH};
 use rules::answers::MeshRead;
 use rules::counts::Counts;
 use rules::form::Field;
+use rules::refusals::ACCEPTED;
+use rules::refusals::WRONG_LENGTH;
 
 // No mesh: counts 0, and 0 bytes used.
 fn refused(refusal: u8) -> MeshRead
     ensures { λ r. ⌜ r ≡ noMesh refusal ⌝ }
 {
     let none = Counts { n: [0, 0, 0, 0] };
-    MeshRead { counts: none, used: 0, refusal }
+    MeshRead {
+        counts: none,
+        used: 0,
+        refusal,
+    }
 }
 
 // The corner count.
@@ -28,14 +34,27 @@ fn read_corners(s: &[u8]) -> MeshRead
     match byte_form(s, 0, 0, 96) {
         Field::Bad(f) => refused(refusal_of(f)),
         Field::Got(n) => {
-            let corners = Counts { n: [n as u8, 0, 0, 0] };
-            MeshRead { counts: corners, used: 1, refusal: ACCEPTED }
+            let corners = Counts {
+                n: [n as u8, 0, 0, 0],
+            };
+            MeshRead {
+                counts: corners,
+                used: 1,
+                refusal: ACCEPTED,
+            }
         }
     }
 }
 
 // The section of dimension k, if those before it were read.
-fn read_next(before: MeshRead, k: u8, s: &[u8], m1: &mut [i8], m2: &mut [i8], m3: &mut [i8]) -> MeshRead
+fn read_next(
+    before: MeshRead,
+    k: u8,
+    s: &[u8],
+    m1: &mut [i8],
+    m2: &mut [i8],
+    m3: &mut [i8],
+) -> MeshRead
     requires { ⌜ Next (now s) k before (pattern (before .counts) (now m1) (now m2) (now m3)) ⌝ }
     ensures { λ r. ⌜ Sofar (now (s .entry)) (k + 1) r (pattern (r .counts) (now (m1 .exit)) (now (m2 .exit)) (now (m3 .exit))) ⌝ }
 {

@@ -6,7 +6,8 @@ ghost use Rattle.rules.specs.Calls.{lent, coefficients};
 ghost use Rattle.rules.specs.Complex.{pattern};
 ghost use Rattle.operators.specs.Boundary.{layer};
 ghost use Rattle.operators.specs.Append.{tried, setIf, appended, Storable, Closable, Appendable};
-use crate::boundary::{are_zero, column_closes};
+use crate::boundary::are_zero;
+use crate::boundary::column_closes;
 use grid::changes::set_column;
 use rules::counts::Counts;
 
@@ -34,7 +35,14 @@ fn set_closed(low: &[i8], rows: usize, n: usize, column: &[i8], m: &mut [i8], at
 }
 
 // The column of a new cell of dimension k is stored in matrix k, if it closes.
-pub(crate) fn append(c: Counts, k: usize, column: &[i8], m1: &mut [i8], m2: &mut [i8], m3: &mut [i8]) -> bool
+pub(crate) fn append(
+    c: Counts,
+    k: usize,
+    column: &[i8],
+    m1: &mut [i8],
+    m2: &mut [i8],
+    m3: &mut [i8],
+) -> bool
     requires { ⌜ Appendable k (now column) (pattern c (now m1) (now m2) (now m3)) ⌝ }
     ensures { λ r. ⌜ lent r (pattern c (now (m1 .exit)) (now (m2 .exit)) (now (m3 .exit))) ≡ appended k (coefficients (now (column .entry))) (pattern c (now (m1 .entry)) (now (m2 .entry)) (now (m3 .entry))) ⌝ }
 {

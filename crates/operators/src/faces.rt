@@ -48,7 +48,10 @@ fn face_at(s: &[u8], dim: u8, list: usize, l: usize) -> Face
     }
     let at = list + 1 + 2 * l;
     let sign = sign_of(s[at + 1]);
-    Face { number: s[at] as usize, sign }
+    Face {
+        number: s[at] as usize,
+        sign,
+    }
 }
 
 // z is added to the column at i.

@@ -9,9 +9,12 @@ ghost use Rattle.rules.specs.Complex.{pattern};
 ghost use Rattle.operators.specs.Held.{Held, MakeForm};
 use crate::append::append;
 use crate::faces::draw;
-use rules::refusals::{ACCEPTED, NOT_CLOSED, NO_ROOM, NO_SUCH_CELL};
 use rules::answers::Applied;
 use rules::counts::Counts;
+use rules::refusals::ACCEPTED;
+use rules::refusals::NO_ROOM;
+use rules::refusals::NO_SUCH_CELL;
+use rules::refusals::NOT_CLOSED;
 
 // The dimension of the faces; corners have none.
 fn below(k: usize) -> usize
@@ -24,7 +27,15 @@ fn below(k: usize) -> usize
 }
 
 // A cell of dimension dim, whose faces are listed from `list` on.
-pub fn make(c: Counts, dim: u8, s: &[u8], list: usize, m1: &mut [i8], m2: &mut [i8], m3: &mut [i8]) -> Applied
+pub fn make(
+    c: Counts,
+    dim: u8,
+    s: &[u8],
+    list: usize,
+    m1: &mut [i8],
+    m2: &mut [i8],
+    m3: &mut [i8],
+) -> Applied
     requires { ⌜ Held (pattern c (now m1) (now m2) (now m3)) ⌝ }
     requires { ⌜ MakeForm (now s) dim list ⌝ }
     ensures { λ r. ⌜ lent r (pattern (r .counts) (now (m1 .exit)) (now (m2 .exit)) (now (m3 .exit))) ≡ applied (pattern c (now (m1 .entry)) (now (m2 .entry)) (now (m3 .entry))) (makeStep dim (madeOf (now (s .entry)) dim list) (complex (pattern c (now (m1 .entry)) (now (m2 .entry)) (now (m3 .entry))))) ⌝ }
@@ -32,14 +43,26 @@ pub fn make(c: Counts, dim: u8, s: &[u8], list: usize, m1: &mut [i8], m2: &mut [
     let k = dim as usize;
     let mut column = [0i8; 96];
     if !draw(s, dim, list, c.n[below(k)], &mut column) {
-        return Applied { counts: c, refusal: NO_SUCH_CELL };
+        return Applied {
+            counts: c,
+            refusal: NO_SUCH_CELL,
+        };
     }
     if 96 <= c.n[k] {
-        return Applied { counts: c, refusal: NO_ROOM };
+        return Applied {
+            counts: c,
+            refusal: NO_ROOM,
+        };
     }
     if !append(c, k, &column, m1, m2, m3) {
-        return Applied { counts: c, refusal: NOT_CLOSED };
+        return Applied {
+            counts: c,
+            refusal: NOT_CLOSED,
+        };
     }
     let counts = c.grown(k);
-    Applied { counts, refusal: ACCEPTED }
+    Applied {
+        counts,
+        refusal: ACCEPTED,
+    }
 }
