@@ -1,0 +1,3 @@
+// The printed result, line by line.
+pub mod lines;
+pub mod numbers;
