@@ -8,3 +8,12 @@ pub mod Made
 -- What is left is good
 pub mod Kept
 pub mod Answered
+-- Stored patterns, their counts, and the loops' forms against the definitions'
+pub mod Patterns
+pub mod Counted
+pub mod Forms
+pub mod Rows
+-- Each outcome of flip, kill and merge
+pub mod FlipLaws
+pub mod KillLaws
+pub mod MergeLaws

@@ -6,7 +6,6 @@ use Prim.Native.Nat.{ℕ, zero, suc, pred, _<_, _≤_}
 use native.Mathlib.Numerals.{add-one}
 use native.Mathlib.Omega.{arith}
 use borrow.Author.Tests.{lt-ltb, le-ltb}
-use lib.Dec.{ltb}
 use lib.IntN.{ℤ}
 use lib.ListN.{length}
 use Rattle.maths.specs.Tables.{entries, tab}
@@ -61,12 +60,13 @@ module _ (test : Bool) (at : ℕ) (column : List ℤ) (whole : List ℤ → Patt
       (λ t. let x = cond t (tried true (over (withColumn at column) old)) (tried false old) in lent (x .done) (whole (x .matrix)) ≡ cond t good bad)
       (λ _. g) (λ _. b)
 
+-- a stored count
+abbrev count : Pattern → ℕ → ℕ
+count p k = countOf (p .counts) k
+
 module _ (p : Pattern) (S : Sized p) (column : List ℤ) where
   abbrev v : Chain
   v = coefficients column
-
-  abbrev n : ℕ → ℕ
-  n k = countOf (p .counts) k
 
   -- matrices that are not touched
   same1 : p .m1 ≡ tab (entries (p .m1))
@@ -87,25 +87,25 @@ module _ (p : Pattern) (S : Sized p) (column : List ℤ) where
   unfolding closed
   closed-1 = rw bare-closes (and-true (not (allZero v)))
 
-  pub append-1 : {k : ℕ} {done : Bool} {m : List ℤ} → k ≡ 1 → tried done m ≡ setIf (not (allZero v)) (n 1) column (p .m1)
+  pub append-1 : {k : ℕ} {done : Bool} {m : List ℤ} → k ≡ 1 → tried done m ≡ setIf (not (allZero v)) (count p 1) column (p .m1)
       → lent done (pattern (p .counts) m (p .m2) (p .m3)) ≡ appended k v p
   unfolding appended make at3 over withColumn put
   append-1 e q = rw (e, closed-1) (placed _ _ _ (λ m. pattern (p .counts) m (p .m2) (p .m3)) q (rw (← same2, ← same3)) refl)
 
   pub append-2 : {k : ℕ} {done : Bool} {m : List ℤ} → k ≡ 2
-      → tried done m ≡ setIf (not (allZero v) && closes (n 0) (layer (n 1) (p .m1)) v) (n 2) column (p .m2)
+      → tried done m ≡ setIf (not (allZero v) && closes (count p 0) (layer (count p 1) (p .m1)) v) (count p 2) column (p .m2)
       → lent done (pattern (p .counts) (p .m1) m (p .m3)) ≡ appended k v p
   unfolding appended closed make at3 over withColumn put
   append-2 e q = rw e (placed _ _ _ (λ m. pattern (p .counts) (p .m1) m (p .m3)) q (rw (← same1, ← same3)) refl)
 
   pub append-3 : {k : ℕ} {done : Bool} {m : List ℤ} → k ≡ 3
-      → tried done m ≡ setIf (not (allZero v) && closes (n 1) (layer (n 2) (p .m2)) v) (n 3) column (p .m3)
+      → tried done m ≡ setIf (not (allZero v) && closes (count p 1) (layer (count p 2) (p .m2)) v) (count p 3) column (p .m3)
       → lent done (pattern (p .counts) (p .m1) (p .m2) m) ≡ appended k v p
   unfolding appended closed make at3 over withColumn put
   append-3 e q = rw e (placed _ _ _ (λ m. pattern (p .counts) (p .m1) (p .m2) m) q (rw (← same1, ← same2)) refl)
 
 -- a count of the complex is a stored one
-pub count-is : (p : Pattern) (q : ℕ) → q ≤ 3 → complex p q .n ≡ countOf (p .counts) q
+pub count-is : (p : Pattern) (q : ℕ) → q ≤ 3 → complex p q .n ≡ count p q
 count-is p zero h = refl
 count-is p (suc zero) h = refl
 count-is p (suc (suc zero)) h = refl
@@ -114,13 +114,10 @@ count-is p (suc (suc (suc (suc q)))) h = absurd (omega arith)
 
 -- what the tests of each dimension need
 module _ {k : ℕ} {column : List ℤ} {p : Pattern} (A : Appendable k column p) where
-  abbrev counted : ℕ → ℕ
-  counted k = countOf (p .counts) k
-
-  pub seam-fits : k ≡ 1 → Storable column (p .m1) (counted 1)
+  pub seam-fits : k ≡ 1 → Storable column (p .m1) (count p 1)
   seam-fits e = record { size = A .size; line = record { size = A .held .sized .size1; inside = rw e at (A .room) } }
 
-  pub panel-fits : k ≡ 2 → Closable (p .m1) (counted 0) (counted 1) column (p .m2) (counted 2)
+  pub panel-fits : k ≡ 2 → Closable (p .m1) (count p 0) (count p 1) column (p .m2) (count p 2)
   panel-fits e = record {
     chained = record {
       lowSize = A .held .sized .size1;
@@ -133,7 +130,7 @@ module _ {k : ℕ} {column : List ℤ} {p : Pattern} (A : Appendable k column p)
     line = record { size = A .held .sized .size2; inside = rw e at (A .room) };
   }
 
-  pub block-fits : k ≡ 3 → Closable (p .m2) (counted 1) (counted 2) column (p .m3) (counted 3)
+  pub block-fits : k ≡ 3 → Closable (p .m2) (count p 1) (count p 2) column (p .m3) (count p 3)
   block-fits e = record {
     chained = record {
       lowSize = A .held .sized .size2;

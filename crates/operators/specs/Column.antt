@@ -12,7 +12,7 @@ use Rattle.operators.specs.Held.{MakeForm}
 use Rattle.operators.specs.declared.faces.Face.{Face}
 
 -- the bytes of a cell to be made, and one of its faces
-pub record Listed (s : List ℕ) (dim list l : ℕ) : Type 0 where
+pub record FaceForm (s : List ℕ) (dim list l : ℕ) : Type 0 where
   pub bytes : MakeForm s dim list
   pub below : l < madeOf s dim list .n
 

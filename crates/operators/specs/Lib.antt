@@ -1,4 +1,8 @@
 pub mod Held
+-- make
 pub mod Column
 pub mod Boundary
 pub mod Append
+-- flip, kill and merge
+pub mod Cells
+pub mod Joins

@@ -4,7 +4,7 @@ ghost use lib.ListN.{getD, set};
 ghost use lib.IntN.{pos, _+ℤ_};
 ghost use Rattle.rules.specs.Form.{signOf, madeOf};
 ghost use Rattle.operators.specs.Held.{MakeForm};
-ghost use Rattle.operators.specs.Column.{Listed, IsFace, Addable, Drawable, Drawn};
+ghost use Rattle.operators.specs.Column.{FaceForm, IsFace, Addable, Drawable, Drawn};
 
 // One listed face.
 pub struct Face {
@@ -36,7 +36,7 @@ fn sign_of(b: u8) -> i8
 
 // Face l of a cell of dimension dim: tail and head of a seam, a pair of a list.
 fn face_at(s: &[u8], dim: u8, list: usize, l: usize) -> Face
-    requires { ⌜ Listed (now s) dim list l ⌝ }
+    requires { ⌜ FaceForm (now s) dim list l ⌝ }
     ensures { λ r. ⌜ IsFace (madeOf (now (s .entry)) dim list) l r ⌝ }
 {
     if dim == 1 {

@@ -1,5 +1,8 @@
-// The five operators on a good pattern.
+// The operators on a good pattern.
 mod append;
 mod boundary;
 mod faces;
+pub mod flip;
+pub mod kill;
 pub mod make;
+pub mod merge;

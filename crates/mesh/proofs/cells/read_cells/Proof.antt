@@ -31,25 +31,18 @@ read-cell-requires c κs =
     let loop = c .before .before .before .before in
     record { dim = loop .before .before .pre .dim; held = loop .loop .inv .held }
 
--- the pattern after a cell
-abbrev after : (c : tie.After-read-cell Inv-loop μ-loop) → Pattern
-after c = pattern (c .read-cell .result .counts) (c .read-cell .last .1 .1 .1 .1 .0) (c .read-cell .last .1 .1 .1 .1 .1 .0) (c .read-cell .last .1 .1 .1 .1 .1 .1 .0)
-
 -- every pattern on the way is as long as the one at entry
-after-cell : (c : tie.After-read-cell Inv-loop μ-loop) → Sized (after c)
-after-cell c = c .read-cell .ensures .held .sized
-
 at-entry : (c : tie.At-loop Inv-loop μ-loop) → Sized (entry (c .before .before))
 at-entry c = c .before .before .pre .held .sized
 
 same-length : tie.Need-same-length Inv-loop μ-loop
-same-length c = let call = c .before .before .before .before .before in after-cell call .size1 ∙ sym (at-entry (call .before .before .before .before .before) .size1)
+same-length c = let call = c .before .before .before .before .before in call .read-cell .ensures .held .sized .size1 ∙ sym (at-entry (call .before .before .before .before .before) .size1)
 
 same-length-2 : tie.Need-same-length-2 Inv-loop μ-loop
-same-length-2 c = let call = c .before .before .before .before .before in after-cell call .size2 ∙ sym (at-entry (call .before .before .before .before .before) .size2)
+same-length-2 c = let call = c .before .before .before .before .before in call .read-cell .ensures .held .sized .size2 ∙ sym (at-entry (call .before .before .before .before .before) .size2)
 
 same-length-3 : tie.Need-same-length-3 Inv-loop μ-loop
-same-length-3 c = let call = c .before .before .before .before .before in after-cell call .size3 ∙ sym (at-entry (call .before .before .before .before .before) .size3)
+same-length-3 c = let call = c .before .before .before .before .before in call .read-cell .ensures .held .sized .size3 ∙ sym (at-entry (call .before .before .before .before .before) .size3)
 
 stopped : tie.Need-returns Inv-loop μ-loop
 stopped c =
@@ -57,7 +50,7 @@ stopped c =
     let loop = call .before .before .before .before .before in
     let start = loop .before .before in
     let a = start .args in
-    cells-stop (a .s .now) (a .k) (a .n) (first start) (loop .loop .inv) {q = after call} (call .read-cell .ensures)
+    cells-stop (a .s .now) (a .k) (a .n) (first start) (loop .loop .inv) (call .read-cell .ensures)
     (call .before .before .before .before .loop-test .taken) (c .if1 .taken)
 
 loop-again : tie.Need-loop-again Inv-loop μ-loop
@@ -67,7 +60,7 @@ loop-again c =
     let loop = call .before .before .before .before .before in
     let start = loop .before .before in
     let a = start .args in
-    cells-more (a .s .now) (a .k) (a .n) (first start) (loop .loop .inv) {q = after call} (call .read-cell .ensures)
+    cells-more (a .s .now) (a .k) (a .n) (first start) (loop .loop .inv) (call .read-cell .ensures)
     (call .before .before .before .before .loop-test .taken) (test .if1 .left)
 
 same-length-4 : tie.Need-same-length-4 Inv-loop μ-loop

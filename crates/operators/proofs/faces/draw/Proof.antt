@@ -5,7 +5,7 @@ use native.Mathlib.Omega.{arith}
 use mir.Syntax.{w8}
 use mir.Val.{toZ, ofZ}
 use Rattle.rules.specs.Form.{madeOf}
-use Rattle.operators.specs.Column.{Listed}
+use Rattle.operators.specs.Column.{FaceForm}
 use Rattle.operators.proofs.Bytes.{sign-unit, faces-few}
 use Rattle.operators.proofs.Columns.{Summed, summed-none, summed-more, summed-small, unit-back, drawn, not-drawn}
 use Rattle.operators.proofs.faces.draw.Statement.{statement}
@@ -24,7 +24,7 @@ loop-holds : tie.Need-loop-holds Inv-loop μ-loop
 loop-holds c = summed-none _ _ (c .before .before .pre .blank)
 
 -- face l is one of the list
-listed : (c : tie.In-loop Inv-loop μ-loop) → Listed (c .before .before .before .before .args .s .now) (c .before .before .before .before .args .dim) (c .before .before .before .before .args .list) (c .before .loop .l)
+listed : (c : tie.In-loop Inv-loop μ-loop) → FaceForm (c .before .before .before .before .args .s .now) (c .before .before .before .before .args .dim) (c .before .before .before .before .args .list) (c .before .loop .l)
 listed c =
     let call = c .before .before in
     record { bytes = call .before .before .pre .bytes; below = omega (arith, call .face-count .ensures) }

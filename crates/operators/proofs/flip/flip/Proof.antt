@@ -1,0 +1,35 @@
+-- `operators::flip::flip` meets its contract: the cell's number is tested against its count, and `flip_at` leaves what the definition says.
+use native.Mathlib.Omega.{arith}
+use denote.Ref.{now}
+use borrow.Author.Needs.{needs}
+use Rattle.rules.specs.Complex.{pattern}
+use Rattle.operators.specs.Cells.{Cell}
+use Rattle.operators.proofs.Patterns.{absent, found}
+use Rattle.operators.proofs.FlipLaws.{flip-absent, flip-done}
+use Rattle.operators.proofs.flip.flip.Statement.{statement}
+use Rattle.operators.proofs.flip.flip.Tie as tie
+
+-- past the test there is such a cell
+here : (c : tie.Else1) → let x = c .before .before .args in
+    Cell 1 3 (pattern (x .t1) (now (x .m1)) (now (x .m2)) (now (x .m3))) (x .dim) (x .cell)
+here c = let s = c .before .before in found (s .pre .0) (omega arith) (s .pre .1) (c .if1 .left)
+
+returns : tie.Need-returns
+returns c = flip-absent (absent (c .before .before .pre .0) (omega arith) (c .if1 .taken))
+
+returns-2 : tie.Need-returns-2
+returns-2 c =
+    let f = c .before .before .before in
+    flip-done (here (f .before .before .before .before)) (f .flip-at .ensures)
+
+pub flip-spec : {M : Type 1} → statement M
+flip-spec =
+    tie.close
+    (tie.spec
+    (λ c. search needs)
+    returns
+    (λ c κs. here (c .before .before .before))
+    (λ c. search needs)
+    (λ c. search needs)
+    (λ c. search needs)
+    returns-2)

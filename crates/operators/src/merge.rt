@@ -1,0 +1,166 @@
+// Merge: the two cells that a cell lies between become one, and the cell goes.
+ghost use mathlib.Core.Path.{_≡_};
+ghost use Prim.Native.Nat.{suc, _+_};
+ghost use Rattle.maths.specs.Tables.{entries, table, tab};
+ghost use Rattle.good.specs.Columns.{layer};
+ghost use Rattle.grid.specs.Grid.{Line, UnitLine, UnitLines};
+ghost use Rattle.rules.specs.Counts.{shrunkAt};
+ghost use Rattle.rules.specs.Complex.{complex, stored};
+ghost use Rattle.rules.specs.Good.{oneEach};
+ghost use Rattle.rules.specs.Edits.{merged, merge};
+ghost use Rattle.rules.specs.Operators.{proper, mergeStep};
+ghost use Rattle.rules.specs.Calls.{lent, applied};
+ghost use Rattle.rules.specs.Complex.{pattern};
+ghost use Rattle.operators.specs.Held.{Held};
+ghost use Rattle.operators.specs.Cells.{Dimension, Cell};
+ghost use Rattle.operators.specs.Joins.{summed, sidesOf, Addends, Apart, Between};
+use good::runs::are_units;
+use good::runs::are_zero;
+use grid::changes::add_column;
+use grid::removals::remove_column;
+use grid::removals::remove_row;
+use grid::tests::row_last;
+use grid::tests::row_times;
+use rules::answers::Applied;
+use rules::counts::Counts;
+use rules::refusals::ACCEPTED;
+use rules::refusals::NO_SUCH_CELL;
+use rules::refusals::NOT_BETWEEN;
+use rules::refusals::WRONG_SUM;
+
+// The two cells that a cell lies between, the lower first, or why they cannot be merged.
+enum Sides {
+    Cells(usize, usize),
+    Refused(u8),
+}
+
+// Whether row t has exactly one -1 and one +1.
+fn is_between(d: &[i8], t: usize) -> bool
+    requires { ⌜ Line (now d) t ⌝ }
+    ensures { λ r. ⌜ r ≡ oneEach (λ j. entries (now (d .entry)) t j) ⌝ }
+{
+    row_times(d, t, -1) == 1 && row_times(d, t, 1) == 1
+}
+
+// The sum of columns a and b.
+fn add_up(d: &[i8], a: usize, b: usize, sums: &mut [i8])
+    requires { ⌜ Addends (now d) a b (now sums) ⌝ }
+    ensures { λ _. ⌜ now (sums .exit) ≡ table 96 (summed (entries (now (d .entry))) a b) ⌝ }
+{
+    let s = 96 * a;
+    let t = 96 * b;
+    for i in 0..96usize {
+        sums[i] = d[s + i] + d[t + i];
+    }
+}
+
+// Whether the sum of columns a and b is within -1 to 1, and not all 0.
+fn is_proper_sum(d: &[i8], a: usize, b: usize) -> bool
+    requires { ⌜ UnitLines (now d) a b ⌝ }
+    ensures { λ r. ⌜ r ≡ proper (summed (entries (now (d .entry))) a b) ⌝ }
+{
+    let mut sums = [0i8; 96];
+    add_up(d, a, b, &mut sums);
+    are_units(&sums, 0, 96) && !are_zero(&sums, 0, 96)
+}
+
+// The cells that cell t lies between, in the matrix that has its row.
+fn sides_in(d: &[i8], t: usize) -> Sides
+    requires { ⌜ UnitLine (now d) t ⌝ }
+    ensures { λ r. ⌜ r ≡ sidesOf (entries (now (d .entry))) t ⌝ }
+{
+    if !is_between(d, t) {
+        return Sides::Refused(NOT_BETWEEN);
+    }
+    let b = row_last(d, t, 96);
+    let a = row_last(d, t, b);
+    if !is_proper_sum(d, a, b) {
+        return Sides::Refused(WRONG_SUM);
+    }
+    Sides::Cells(a, b)
+}
+
+// The same in the pattern: the matrix above has a cell's row.
+fn sides_at(c: Counts, dim: u8, t: usize, m1: &[i8], m2: &[i8], m3: &[i8]) -> Sides
+    requires { ⌜ Cell 0 2 (pattern c (now m1) (now m2) (now m3)) dim t ⌝ }
+    ensures { λ r. ⌜ r ≡ sidesOf (complex (pattern c (now (m1 .entry)) (now (m2 .entry)) (now (m3 .entry))) (suc dim) .d) t ⌝ }
+{
+    match dim {
+        0 => sides_in(m1, t),
+        1 => sides_in(m2, t),
+        _ => sides_in(m3, t),
+    }
+}
+
+// Column a becomes the sum of columns a and b; column b and row t go.
+fn join(d: &mut [i8], t: usize, a: usize, b: usize)
+    requires { ⌜ Apart (now d) t a b ⌝ }
+    ensures { λ _. ⌜ now (d .exit) ≡ tab (merged t a b (layer 0 (now (d .entry))) .d) ⌝ }
+{
+    add_column(d, a, b);
+    remove_column(d, b);
+    remove_row(d, t);
+}
+
+// Cell t goes, and of the two beside it the higher; no matrix has a corner's column or a block's row.
+fn merge_at(
+    c: Counts,
+    dim: u8,
+    t: usize,
+    a: usize,
+    b: usize,
+    m1: &mut [i8],
+    m2: &mut [i8],
+    m3: &mut [i8],
+)
+    requires { ⌜ Between (pattern c (now m1) (now m2) (now m3)) dim t a b ⌝ }
+    ensures { λ _. ⌜ pattern (shrunkAt (shrunkAt c dim) (dim + 1)) (now (m1 .exit)) (now (m2 .exit)) (now (m3 .exit)) ≡ stored (merge dim t a b (complex (pattern c (now (m1 .entry)) (now (m2 .entry)) (now (m3 .entry))))) ⌝ }
+{
+    match dim {
+        0 => {
+            join(m1, t, a, b);
+            remove_row(m2, b);
+        }
+        1 => {
+            remove_column(m1, t);
+            join(m2, t, a, b);
+            remove_row(m3, b);
+        }
+        _ => {
+            remove_column(m2, t);
+            join(m3, t, a, b);
+        }
+    }
+}
+
+// Merge at dim: the two cells that the cell lies between become one.
+pub fn merge(c: Counts, dim: u8, cell: u8, m1: &mut [i8], m2: &mut [i8], m3: &mut [i8]) -> Applied
+    requires { ⌜ Dimension 0 2 dim ⌝ }
+    requires { ⌜ Held (pattern c (now m1) (now m2) (now m3)) ⌝ }
+    ensures { λ r. ⌜ lent r (pattern (r .counts) (now (m1 .exit)) (now (m2 .exit)) (now (m3 .exit))) ≡ applied (pattern c (now (m1 .entry)) (now (m2 .entry)) (now (m3 .entry))) (mergeStep dim cell (complex (pattern c (now (m1 .entry)) (now (m2 .entry)) (now (m3 .entry))))) ⌝ }
+{
+    let k = dim as usize;
+    if c.n[k] <= cell {
+        return Applied {
+            counts: c,
+            refusal: NO_SUCH_CELL,
+        };
+    }
+    let t = cell as usize;
+    let s = sides_at(c, dim, t, m1, m2, m3);
+    match s {
+        Sides::Refused(r) => Applied {
+            counts: c,
+            refusal: r,
+        },
+        Sides::Cells(a, b) => {
+            merge_at(c, dim, t, a, b, m1, m2, m3);
+            let fewer = c.shrunk(k);
+            let left = fewer.shrunk(k + 1);
+            Applied {
+                counts: left,
+                refusal: ACCEPTED,
+            }
+        }
+    }
+}
