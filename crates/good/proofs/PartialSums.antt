@@ -17,7 +17,8 @@ use Rattle.maths.proofs.Tables.{length-table, getD-table, is-table, table-same,
 use Rattle.maths.proofs.Sizes.{dot-size}
 use Rattle.rules.specs.Complex.{Chain}
 use Rattle.rules.specs.Good.{closes}
-use Rattle.good.specs.Columns.{layer, run, plus, Addable, Neighbours}
+use Rattle.grid.specs.Grid.{run}
+use Rattle.good.specs.Columns.{layer, plus, Addable, Neighbours}
 use Rattle.good.specs.Parts.{Placed}
 use Rattle.good.proofs.Tests.{and-true, all-split}
 

@@ -14,7 +14,8 @@ use Rattle.maths.proofs.Cases.{lt-or, bool-or, cond-true, cond-false}
 use Rattle.maths.proofs.Tests.{zero-true, unit-true, all-at, all-same, count-same}
 use Rattle.maths.proofs.Tables.{entries-in, entries-out, in-or-out}
 use Rattle.rules.specs.Good.{times, oneEach, allZero, inPlace}
-use Rattle.good.specs.Columns.{layer, run, columnInPlace, Matrix}
+use Rattle.grid.specs.Grid.{run}
+use Rattle.good.specs.Columns.{layer, columnInPlace, Matrix}
 use Rattle.good.specs.Parts.{Placed}
 use Rattle.good.proofs.Tests.{all-split, all-columns}
 

@@ -12,7 +12,8 @@ use Rattle.maths.proofs.Tables.{is-table}
 use Rattle.maths.proofs.Sweep.{Filled, filled-none, filled-more}
 use Rattle.maths.proofs.Sizes.{add-size, neg-size, fits-size, plus-fits, plus-is}
 use Rattle.rules.specs.Complex.{Chain}
-use Rattle.good.specs.Columns.{run, plus, Addable}
+use Rattle.grid.specs.Grid.{run}
+use Rattle.good.specs.Columns.{plus, Addable}
 
 -- the first i sums have their part of v, and the others are still the old ones
 pub record Adding (v : Chain) (old sums : List ℤ) (i : ℕ) : Type 0 where

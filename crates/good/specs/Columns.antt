@@ -7,15 +7,12 @@ use lib.IntN.{ℤ, pos, natAbs, _+ℤ_}
 use lib.ListN.{length, getD}
 use Rattle.maths.specs.Tests.{isZero, isUnit, all}
 use Rattle.maths.specs.Tables.{table, entries}
+use Rattle.grid.specs.Grid.{run}
 use Rattle.rules.specs.Complex.{Layer, Chain}
 
 -- the cells whose matrix is stored in m
 abbrev pub layer : ℕ → List ℤ → Layer
 layer n m = record { n = n; d = entries m }
-
--- the entries from a place on: from 96 * j, column j
-abbrev pub run : List ℤ → ℕ → Chain
-run m from i = getD m (from + i) (pos 0)
 
 -- the column at a place: -1, 0 or 1 in the rows below the count, and 0 past it
 unfoldable pub columnInPlace : List ℤ → ℕ → ℕ → Bool

@@ -6,10 +6,11 @@ ghost use lib.ListN.{length};
 ghost use Rattle.maths.specs.Tests.{all};
 ghost use Rattle.maths.specs.Tables.{entries};
 ghost use Rattle.rules.specs.Good.{oneEach, allZero, inPlace};
-ghost use Rattle.good.specs.Columns.{layer, run, columnInPlace, Column, Columns, Matrix};
-use crate::runs::are_units;
-use crate::runs::are_zero;
-use crate::runs::times_of;
+ghost use Rattle.grid.specs.Grid.{run};
+ghost use Rattle.good.specs.Columns.{layer, columnInPlace, Column, Columns, Matrix};
+use grid::runs::are_units;
+use grid::runs::are_zero;
+use grid::runs::times_of;
 
 // Whether the column at a place is -1, 0 or 1 in the rows below the count and 0 past it.
 fn column_in_place(m: &[i8], from: usize, rows: usize) -> bool

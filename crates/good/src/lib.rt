@@ -10,7 +10,6 @@ use rules::refusals::WRONG_LENGTH;
 mod columns;
 mod pattern;
 mod products;
-pub mod runs;
 
 // The refusal of a lent pattern: 1 where a matrix is not 9,216 long, else 2 where the pattern is not good, else 0.
 pub fn refusal_of_pattern(c: Counts, m1: &[i8], m2: &[i8], m3: &[i8]) -> u8

@@ -5,9 +5,10 @@ ghost use lib.IntN.{natAbs, negℤ, _*ℤ_};
 ghost use Rattle.maths.specs.Tests.{all};
 ghost use Rattle.maths.specs.Tables.{entries};
 ghost use Rattle.rules.specs.Good.{closes};
-ghost use Rattle.good.specs.Columns.{layer, run, plus, Addable, Neighbours};
-use crate::runs::are_zero;
+ghost use Rattle.grid.specs.Grid.{run};
+ghost use Rattle.good.specs.Columns.{layer, plus, Addable, Neighbours};
 use grid::byte::eq8;
+use grid::runs::are_zero;
 
 // The column at a place is added to the sums.
 fn add_column(sums: &mut [i8], m: &[i8], from: usize)

@@ -2,7 +2,7 @@
 use mathlib.Core.Path.{_≡_}
 use mathlib.Core.Bool.{cond}
 use mathlib.Core.List.{List}
-use Prim.Native.Nat.{ℕ, _<_, _≤_}
+use Prim.Native.Nat.{ℕ, _+_, _<_, _≤_}
 use lib.Dec.{eqb, ltb}
 use lib.IntN.{ℤ, pos, negℤ, natAbs, _+ℤ_}
 use lib.ListN.{length, getD}
@@ -92,3 +92,7 @@ removedRow r f i j = f (up r i) j
 -- row r is removed from column c alone
 unfoldable pub removedIn : ℕ → ℕ → Entries → Entries
 removedIn c r f i j = cond (eqb j c) (f (up r i) c) (f i j)
+
+-- the entries from a place on: from 96 * j, column j
+abbrev pub run : List ℤ → ℕ → (ℕ → ℤ)
+run m from i = getD m (from + i) (pos 0)

@@ -2,4 +2,5 @@
 pub mod byte;
 pub mod changes;
 pub mod removals;
+pub mod runs;
 pub mod tests;

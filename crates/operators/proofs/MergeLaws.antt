@@ -10,7 +10,7 @@ use lib.IntN.{ℤ}
 use lib.Seq.{getD-set-other}
 use Rattle.maths.specs.Tables.{tab}
 use Rattle.maths.proofs.Cases.{lt-or}
-use Rattle.good.specs.Columns.{layer}
+use Rattle.operators.specs.Boundary.{layer}
 use Rattle.grid.specs.Grid.{Line, UnitLine, over, removedColumn, removedRow}
 use Rattle.rules.specs.Counts.{countOf, shrunkAt}
 use Rattle.rules.specs.Refusals.{noSuchCell, notBetween, wrongSum}

@@ -12,7 +12,7 @@ use Rattle.maths.specs.Tables.{Entries, table}
 use Rattle.maths.proofs.Cases.{lt-or}
 use Rattle.maths.proofs.Tests.{eqZ-true, zero-false, all-same, one-found, last-passes, last-most}
 use Rattle.maths.proofs.Tables.{getD-table}
-use Rattle.good.specs.Columns.{run}
+use Rattle.grid.specs.Grid.{run}
 use Rattle.rules.specs.Refusals.{notBetween, wrongSum}
 use Rattle.rules.specs.Complex.{Chain}
 use Rattle.rules.specs.Good.{oneEach, allZero}

@@ -1,7 +1,7 @@
 -- `good::products::add_column` meets its contract: in turn i sum i is still the old one, and leaves room for an entry in a byte.
 use Prim.Native.Nat.{_-_}
 use native.Mathlib.Omega.{arith}
-use Rattle.good.specs.Columns.{run}
+use Rattle.grid.specs.Grid.{run}
 use Rattle.good.proofs.Sums.{Adding, adding-begin, adding-more, adding-end, sum-fits, sum-is}
 use Rattle.good.proofs.products.add_column.Statement.{statement}
 use Rattle.good.proofs.products.add_column.Tie as tie

@@ -3,7 +3,7 @@ use mathlib.Core.Path.{sym, _∙_}
 use mir.Facts.{toZ-ofZ}
 use borrow.Author.Needs.{needs}
 use Rattle.maths.proofs.Tests.{eqZ-true, unit-rest}
-use Rattle.good.specs.Columns.{run}
+use Rattle.grid.specs.Grid.{run}
 use Rattle.good.proofs.PartialSums.{plus-once, minus-once, plus-none}
 use Rattle.good.proofs.products.add_times.Statement.{statement}
 use Rattle.good.proofs.products.add_times.Tie as tie

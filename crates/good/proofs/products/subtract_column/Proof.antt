@@ -2,7 +2,7 @@
 use Prim.Native.Nat.{_-_}
 use native.Mathlib.Omega.{arith}
 use lib.IntN.{negℤ}
-use Rattle.good.specs.Columns.{run}
+use Rattle.grid.specs.Grid.{run}
 use Rattle.good.proofs.Sums.{Adding, adding-begin, adding-more, adding-end, difference-fits, difference-is}
 use Rattle.good.proofs.products.subtract_column.Statement.{statement}
 use Rattle.good.proofs.products.subtract_column.Tie as tie
