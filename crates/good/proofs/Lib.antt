@@ -1,5 +1,4 @@
 pub mod Tests
 pub mod Places
-pub mod Sums
 pub mod PartialSums
 pub mod Parts

@@ -5,12 +5,11 @@ use mathlib.Core.List.{List}
 use Prim.Native.Nat.{ℕ, _+_, _*_, _-_, _<_, _≤_}
 use native.Mathlib.Nat.{zero-add}
 use native.Mathlib.Omega.{arith}
-use lib.IntN.{ℤ, pos, negsuc, negℤ, natAbs, _*ℤ_, *ℤ-zero, +ℤ-idr}
+use lib.IntN.{ℤ, pos, natAbs, _*ℤ_}
 use lib.ListN.{length, getD, replicate, getD-replicate}
 use Rattle.maths.specs.Tests.{isZero, all}
 use Rattle.maths.specs.Sums.{dot}
 use Rattle.maths.specs.Tables.{table, Entries, entries}
-use Rattle.maths.proofs.Integers.{*ℤ-1, *ℤ-minus-one}
 use Rattle.maths.proofs.Tests.{zero-is, all-of, all-same}
 use Rattle.maths.proofs.Dots.{dot-zero, dot-next, dot-0-l}
 use Rattle.maths.proofs.Tables.{length-table, getD-table, is-table, table-same, entries-in}
@@ -18,21 +17,10 @@ use Rattle.maths.proofs.Sizes.{dot-size}
 use Rattle.rules.specs.Complex.{Chain}
 use Rattle.rules.specs.Good.{closes}
 use Rattle.grid.specs.Grid.{run}
-use Rattle.good.specs.Columns.{layer, plus, Addable, Neighbours}
+use Rattle.good.specs.Columns.{layer, Neighbours}
+use Rattle.grid.specs.Grid.{plus, Addable}
 use Rattle.good.specs.Parts.{Placed}
 use Rattle.good.proofs.Tests.{and-true, all-split}
-
--- a column added once, subtracted once, or left
-module _ (old : List ℤ) (v : Chain) {s : ℤ} where
-  pub plus-once : s ≡ pos 1 → plus old v ≡ plus old (λ i. v i *ℤ s)
-  plus-once e = rw e (simp *ℤ-1)
-
-  pub minus-once : s ≡ negsuc 0 → plus old (λ i. negℤ (v i)) ≡ plus old (λ i. v i *ℤ s)
-  minus-once e = rw e (simp *ℤ-minus-one)
-
-  pub plus-none : s ≡ pos 0 → length old ≡ 96 → old ≡ plus old (λ i. v i *ℤ s)
-  unfolding plus
-  plus-none e l = rw e (is-table (pos 0) l (λ i h. sym (rw (*ℤ-zero, +ℤ-idr))))
 
 -- the sums after k columns
 abbrev pub partial : List ℤ → List ℤ → ℕ → ℕ → List ℤ

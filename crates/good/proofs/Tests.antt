@@ -1,29 +1,10 @@
--- A loop that ends at the first number that fails a test; such a test in two parts, and column by column.
+-- A test of every number below a bound in two parts, and column by column.
 use mathlib.Core.Path.{_≡_, refl, sym, ap, _∙_}
 use mathlib.Core.Bool.{Bool, true, false, _&&_}
-use Prim.Native.Nat.{ℕ, zero, suc, _+_, _*_, _-_, _<_, _≤_}
+use Prim.Native.Nat.{ℕ, zero, suc, _+_, _*_, _-_, _≤_}
 use native.Mathlib.Nat.{add-zero, add-suc}
 use native.Mathlib.Omega.{arith}
 use Rattle.maths.specs.Tests.{all}
-use Rattle.maths.proofs.Tests.{all-none, all-more, all-not}
-
--- a loop that ends at the first of n numbers that fails: those below i have passed
-pub record Passed (p : ℕ → Bool) (n i : ℕ) : Type 0 where
-  pub upto : i ≤ n
-  pub so : all i p ≡ true
-
-pub passed-none : (p : ℕ → Bool) (n : ℕ) → Passed p n 0
-passed-none p n = record { upto = omega arith; so = all-none p }
-
-module _ {p : ℕ → Bool} {n i : ℕ} (s : Passed p n i) where
-  pub passed-more : i < n → p i ≡ true → Passed p n (i + 1)
-  passed-more h e = record { upto = omega arith; so = all-more i p (s .so) e }
-
-  pub passed-not : i < n → p i ≡ false → false ≡ all n p
-  passed-not h e = sym (all-not n p i h e)
-
-  pub passed-all : n ≤ i → true ≡ all n p
-  passed-all h = let e : i ≡ n = omega arith in sym (rw e at (s .so))
 
 pub and-true : (a : Bool) → a && true ≡ a
 and-true true = refl

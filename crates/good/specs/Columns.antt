@@ -18,10 +18,6 @@ layer n m = record { n = n; d = entries m }
 unfoldable pub columnInPlace : List ℤ → ℕ → ℕ → Bool
 columnInPlace m from rows = all rows (λ i. isUnit (run m from i)) && all (96 - rows) (λ i. isZero (run m (from + rows) i))
 
--- 96 sums, to each of which its part of v is added
-unfoldable pub plus : List ℤ → Chain → List ℤ
-plus sums v = table 96 (λ i. getD sums i (pos 0) +ℤ v i)
-
 -- a stored matrix, the first n columns of which are in use
 pub record Columns (m : List ℤ) (n : ℕ) : Type 0 where
   pub size : length m ≡ 9216
@@ -36,13 +32,6 @@ pub record Matrix (m : List ℤ) (rows n : ℕ) : Type 0 where
 pub record Column (m : List ℤ) (from rows : ℕ) : Type 0 where
   pub inside : from + 96 ≤ length m
   pub short : rows ≤ 96
-
--- 96 small sums, and a column that can be added to them
-pub record Addable (sums m : List ℤ) (from : ℕ) : Type 0 where
-  pub size : length sums ≡ 96
-  pub inside : from + 96 ≤ length m
-  pub small : (i : ℕ) → i < 96 → natAbs (getD sums i (pos 0)) ≤ 96
-  pub unit : (i : ℕ) → i < 96 → natAbs (run m from i) ≤ 1
 
 -- two neighbouring matrices of -1, 0 and 1, and how many columns of the lower one are in use
 pub record Neighbours (low high : List ℤ) (between : ℕ) : Type 0 where

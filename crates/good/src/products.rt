@@ -1,47 +1,12 @@
 // Whether one matrix times the next is zero: for each column of the next, sums of columns of the first.
 ghost use mathlib.Core.Path.{_≡_};
 ghost use Prim.Native.Nat.{_≤_, _<_};
-ghost use lib.IntN.{natAbs, negℤ, _*ℤ_};
 ghost use Rattle.maths.specs.Tests.{all};
 ghost use Rattle.maths.specs.Tables.{entries};
 ghost use Rattle.rules.specs.Good.{closes};
-ghost use Rattle.grid.specs.Grid.{run};
-ghost use Rattle.good.specs.Columns.{layer, plus, Addable, Neighbours};
-use grid::byte::eq8;
+ghost use Rattle.good.specs.Columns.{layer, Neighbours};
 use grid::runs::are_zero;
-
-// The column at a place is added to the sums.
-fn add_column(sums: &mut [i8], m: &[i8], from: usize)
-    requires { ⌜ Addable (now sums) (now m) from ⌝ }
-    ensures { λ r. ⌜ now (sums .exit) ≡ plus (now (sums .entry)) (run (now (m .entry)) from) ⌝ }
-{
-    for i in 0..96usize {
-        sums[i] = sums[i] + m[from + i];
-    }
-}
-
-// The column at a place is subtracted from the sums.
-fn subtract_column(sums: &mut [i8], m: &[i8], from: usize)
-    requires { ⌜ Addable (now sums) (now m) from ⌝ }
-    ensures { λ r. ⌜ now (sums .exit) ≡ plus (now (sums .entry)) (λ i. negℤ (run (now (m .entry)) from i)) ⌝ }
-{
-    for i in 0..96usize {
-        sums[i] = sums[i] - m[from + i];
-    }
-}
-
-// The column at a place is added s times, s being -1, 0 or 1.
-fn add_times(sums: &mut [i8], m: &[i8], from: usize, s: i8)
-    requires { ⌜ Addable (now sums) (now m) from ⌝ }
-    requires { ⌜ natAbs s ≤ 1 ⌝ }
-    ensures { λ r. ⌜ now (sums .exit) ≡ plus (now (sums .entry)) (λ i. run (now (m .entry)) from i *ℤ s) ⌝ }
-{
-    if eq8(s, 1) {
-        add_column(sums, m, from);
-    } else if eq8(s, -1) {
-        subtract_column(sums, m, from);
-    }
-}
+use grid::sums::add_times;
 
 // Whether column j of `high`, a chain of cells of `low`, has boundary zero.
 fn column_closes(low: &[i8], high: &[i8], between: usize, j: usize) -> bool

@@ -1,3 +1,4 @@
 pub mod Walks
 pub mod Readings
 pub mod Joined
+pub mod Adding

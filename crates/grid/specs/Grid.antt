@@ -7,7 +7,7 @@ use lib.Dec.{eqb, ltb}
 use lib.IntN.{ℤ, pos, negℤ, natAbs, _+ℤ_}
 use lib.ListN.{length, getD}
 use Rattle.maths.specs.Sums.{up}
-use Rattle.maths.specs.Tables.{Entries, entries, tab}
+use Rattle.maths.specs.Tables.{Entries, table, entries, tab}
 
 -- every entry is -1, 0 or 1
 pub record Units (m : List ℤ) : Type 0 where
@@ -96,3 +96,14 @@ removedIn c r f i j = cond (eqb j c) (f (up r i) c) (f i j)
 -- the entries from a place on: from 96 * j, column j
 abbrev pub run : List ℤ → ℕ → (ℕ → ℤ)
 run m from i = getD m (from + i) (pos 0)
+
+-- 96 sums, to each of which its part of v is added
+unfoldable pub plus : List ℤ → (ℕ → ℤ) → List ℤ
+plus sums v = table 96 (λ i. getD sums i (pos 0) +ℤ v i)
+
+-- 96 small sums, and a column that can be added to them
+pub record Addable (sums m : List ℤ) (from : ℕ) : Type 0 where
+  pub size : length sums ≡ 96
+  pub inside : from + 96 ≤ length m
+  pub small : (i : ℕ) → i < 96 → natAbs (getD sums i (pos 0)) ≤ 96
+  pub unit : (i : ℕ) → i < 96 → natAbs (run m from i) ≤ 1

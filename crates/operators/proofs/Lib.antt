@@ -17,3 +17,14 @@ pub mod Rows
 pub mod FlipLaws
 pub mod KillLaws
 pub mod MergeLaws
+-- Split: the list and the chosen part, its boundary, the stores, and each outcome
+pub mod Lists
+pub mod Listing
+pub mod Parts
+pub mod Choices
+pub mod Edges
+pub mod Stores
+pub mod Divisions
+pub mod SplitLaws
+pub mod SplitForms
+pub mod SplitAnswers

@@ -6,3 +6,6 @@ pub mod Append
 -- flip, kill and merge
 pub mod Cells
 pub mod Joins
+-- split
+pub mod Part
+pub mod Split

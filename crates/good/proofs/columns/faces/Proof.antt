@@ -5,7 +5,7 @@ use Prim.Native.Nat.{_-_}
 use native.Mathlib.Omega.{arith}
 use Rattle.maths.specs.Tables.{entries}
 use Rattle.rules.specs.Good.{allZero}
-use Rattle.good.proofs.Tests.{Passed, passed-none, passed-more, passed-not, passed-all}
+use Rattle.grid.proofs.Joined.{Passed, passed-none, passed-more, passed-not, passed-all}
 use Rattle.good.proofs.Places.{zero-column}
 use Rattle.good.proofs.columns.faces.Statement.{statement}
 use Rattle.good.proofs.columns.faces.Tie as tie

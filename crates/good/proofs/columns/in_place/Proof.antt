@@ -4,7 +4,7 @@ use Prim.Native.Nat.{_*_, _-_}
 use native.Mathlib.Omega.{arith}
 use borrow.Author.Tests.{not-true, not-false}
 use Rattle.good.specs.Columns.{columnInPlace}
-use Rattle.good.proofs.Tests.{Passed, passed-none, passed-more, passed-not, passed-all}
+use Rattle.grid.proofs.Joined.{Passed, passed-none, passed-more, passed-not, passed-all}
 use Rattle.good.proofs.Places.{in-place-not, in-place-rest}
 use Rattle.good.proofs.columns.in_place.Statement.{statement}
 use Rattle.good.proofs.columns.in_place.Tie as tie

@@ -5,7 +5,7 @@ use native.Mathlib.Omega.{arith}
 use borrow.Author.Tests.{not-true, not-false}
 use Rattle.maths.specs.Tables.{entries}
 use Rattle.rules.specs.Good.{oneEach}
-use Rattle.good.proofs.Tests.{Passed, passed-none, passed-more, passed-not, passed-all}
+use Rattle.grid.proofs.Joined.{Passed, passed-none, passed-more, passed-not, passed-all}
 use Rattle.good.proofs.Places.{one-each-column}
 use Rattle.good.proofs.columns.seams.Statement.{statement}
 use Rattle.good.proofs.columns.seams.Tie as tie

@@ -1,0 +1,42 @@
+-- `operators::chosen::take_listed` meets its contract: the faces passed are marked with their entries, and all else is 0.
+use mathlib.Core.Path.{sym, _∙_}
+use Prim.Native.Nat.{_-_, _<_}
+use native.Mathlib.Omega.{arith}
+use mir.Syntax.{w8}
+use Rattle.maths.proofs.Sizes.{back}
+use Rattle.operators.specs.Part.{numbers, column}
+use Rattle.operators.proofs.Parts.{column-entry, Marked, mark-begin, mark-more, mark-end}
+use Rattle.operators.proofs.chosen.take_listed.Statement.{statement}
+use Rattle.operators.proofs.chosen.take_listed.Tie as tie
+
+abbrev Inv-loop : tie.InvT-loop
+Inv-loop s list m cell taken₀ from count l₀ taken l = Marked (numbers s list) (column m cell) l taken
+
+abbrev μ-loop : tie.MeasureT-loop
+μ-loop s list m cell taken₀ from count l₀ taken l = count - l
+
+loop-holds : tie.Need-loop-holds Inv-loop μ-loop
+loop-holds c = mark-begin (c .before .before .pre .1 .blank)
+
+-- a listed number is below 96
+small : (c : tie.After-byte-at2 Inv-loop μ-loop) → c .byte-at2 .result < 96
+small c =
+    let a = c .before .before in
+    omega (arith, c .byte-at2 .ensures, a .before .before .before .pre .0 .low (a .loop .l) (omega arith))
+
+loop-again : tie.Need-loop-again Inv-loop μ-loop
+loop-again c =
+    let a = c .before .before .before in
+    let h = small (c .before) in
+    mark-more (a .loop .inv) (omega arith) (c .before .byte-at2 .ensures) h
+    (back w8 (c .taken .given) ∙ column-entry _ _ _ h (a .before .before .before .pre .1 .line .inside))
+
+returns : tie.Need-returns Inv-loop μ-loop
+returns c = mark-end (c .before .loop .inv) (omega arith)
+
+pub take-listed-spec : {M : Type 1} → statement M
+take-listed-spec =
+    tie.close (tie.spec Inv-loop μ-loop (λ c. omega arith) (λ c κs. omega arith) loop-holds (λ c. omega arith) (λ c. omega arith) (λ c κs. omega arith)
+    (λ c. omega (arith, small c)) (λ c. omega (arith, small c)) (λ c. omega (arith, small (c .before), c .before .before .before .loop .inv .size))
+    (λ c. omega arith) (λ c. omega arith) loop-again
+    (λ c. c .before .loop .inv .size ∙ sym (c .before .before .before .before .pre .1 .blank .size)) returns)

@@ -1,0 +1,16 @@
+-- `operators::halves::halve` meets its contract: the row of t was zero, so its two entries are all of it.
+use borrow.Author.Needs.{needs}
+use Rattle.operators.proofs.Stores.{halved}
+use Rattle.operators.proofs.halves.halve.Statement.{statement}
+use Rattle.operators.proofs.halves.halve.Tie as tie
+
+returns : tie.Need-returns
+returns c =
+    let c₃ = c .before .before .before .before in
+    let c₂ = c₃ .before .before .before in
+    let c₁ = c₂ .before .before .before in
+    halved (c₁ .before .before .pre) (c₁ .leave-rest .ensures) (c₂ .set-entry .ensures) (c₃ .set-column .ensures) (c .before .set-entry2 .ensures)
+
+pub halve-spec : {M : Type 1} → statement M
+halve-spec =
+    tie.close (tie.spec (λ c κs. search needs) (λ c κs. search needs) (λ c κs. search needs) (λ c κs. search needs) (λ c. search needs) returns)
