@@ -1,0 +1,95 @@
+-- The run of a script's operators: one of them, and the rest of the run, which is always the whole.
+use mathlib.Core.Path.{_≡_, refl, sym, ap, _∙_}
+use mathlib.Core.Logic.{_≢_}
+use mathlib.Core.List.{List}
+use Prim.Native.Nat.{ℕ, _+_, _-_, _<_, _≤_}
+use native.Mathlib.Omega.{arith}
+use lib.IntN.{ℤ}
+use Rattle.maths.proofs.Repeat as turns
+use Rattle.rules.specs.declared.answers.Applied.{Applied}
+use Rattle.rules.specs.declared.form.Fault.{Fault}
+use Rattle.rules.specs.declared.form.OperatorForm.{OperatorForm}
+use Rattle.rules.specs.declared.operator.Operator.{Operator}
+use Rattle.rules.specs.Refusals.{accepted}
+use Rattle.rules.specs.Complex.{Pattern, complex, pattern, countsOf, stored}
+use Rattle.rules.specs.Operators.{step}
+use Rattle.rules.specs.Form.{operatorAt, facesOf, faultNumber}
+use Rattle.rules.specs.Script.{ended, runOne, runFrom}
+use Rattle.rules.specs.Calls.{lent, applied}
+use Rattle.operators.specs.Held.{Held}
+use Rattle.operators.proofs.Kept.{left, applied-held}
+use Rattle.operators.proofs.Answered.{answer-accepted, answer-refused}
+use Rattle.engine.specs.Source.{ReadFrom}
+use Rattle.engine.specs.Running.{here, Runnable, Turned, RunTo}
+use Rattle.engine.proofs.Shapes.{formed}
+
+fault-some : (f : Fault) → faultNumber f ≢ accepted
+fault-some (Fault.Ends at) = omega arith
+fault-some (Fault.Wrong at) = omega arith
+fault-some (Fault.Left at) = omega arith
+
+-- the operator at `at`
+module _ (s : List ℕ) (at : ℕ) (p : Pattern) (H : Held p) where
+  pub turn-faulty : {f : Fault} {next refusal : ℕ} → operatorAt s at ≡ OperatorForm.Bad f → refusal ≡ faultNumber f → Turned s at p next refusal p
+  unfolding runOne
+  turn-faulty {f} b q = record {
+    held = H;
+    goes = λ e. absurd (fault-some f (sym q ∙ e));
+    ends = λ n ran go. rw (b, q);
+  }
+
+  module _ {o : Operator} {next : ℕ} (d : operatorAt s at ≡ OperatorForm.Decoded o next) where
+    pub source : ReadFrom s o
+    source = record { at = at; next = next; form = d }
+
+    module _ {a : Applied} {m1 m2 m3 : List ℤ} (e : lent a (pattern (a .counts) m1 m2 m3) ≡ applied p (step o (facesOf s o) (complex p))) where
+      -- a refused operator leaves the pattern as it was
+      unchanged : a .refusal ≢ accepted → pattern (a .counts) m1 m2 m3 ≡ p
+      unchanged n =
+          ap left
+          (e ∙ answer-refused p s o e (λ r. lent (record { counts = p .counts; refusal = r }) p)
+          (λ Y. lent (record { counts = countsOf Y; refusal = accepted }) (stored Y)) n)
+
+      pub turn-done : Turned s at p next (a .refusal) (pattern (a .counts) m1 m2 m3)
+      unfolding runOne
+      turn-done = record {
+        held = applied-held s o H (formed source) e;
+        goes = λ q ran go.
+            rw d (answer-accepted p s o e (λ r. ended (complex p) ran r) (λ X. go (here X (ran + 1) next)) H (formed source) q);
+        ends = λ n ran go.
+            rw d (answer-refused p s o e (λ r. ended (complex p) ran r) (λ X. go (here X (ran + 1) next)) n
+            ∙ ap (λ x. ended (complex x) ran (a .refusal)) (sym (unchanged n)));
+      }
+
+-- the rest of the run, from where it stands, is the whole
+module _ (s : List ℕ) (n : ℕ) (p : Pattern) where
+  pub record Under (left ran place : ℕ) (q : Pattern) : Type 0 where
+    pub held : Held q
+    pub count : ran + left ≡ n
+    pub few : n ≤ 1024
+    pub rest : runFrom s left (here (complex q) ran place) ≡ runFrom s n (here (complex p) 0 7)
+
+  pub run-starts : Runnable n p → Under n 0 7 p
+  run-starts R = record { held = R .held; count = omega arith; few = R .few; rest = refl }
+
+  module _ {left ran place : ℕ} {q : Pattern} (U : Under left ran place q) where
+    module _ {next refusal : ℕ} {q' : Pattern} (T : Turned s place q next refusal q') (h : 0 < left) where
+      pub run-more : refusal ≡ accepted → Under (left - 1) (ran + 1) next q'
+      unfolding runFrom
+      run-more e = record {
+        held = T .held;
+        count = omega (arith, U .count);
+        few = U .few;
+        rest = turns.turned (runOne s) _ (here (complex q) ran place) h (T .goes e ran) ∙ U .rest;
+      }
+
+      pub run-stops : refusal ≢ accepted → RunTo s n p ran refusal q'
+      unfolding runFrom
+      run-stops e = record {
+        held = T .held;
+        is = turns.stopped (runOne s) _ (here (complex q) ran place) h (T .ends e ran) ∙ U .rest;
+      }
+
+    pub run-ends : left ≡ 0 → RunTo s n p ran accepted q
+    unfolding runFrom
+    run-ends z = record { held = U .held; is = turns.ended (runOne s) _ (here (complex q) ran place) z refl ∙ U .rest }

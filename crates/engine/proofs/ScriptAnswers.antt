@@ -1,0 +1,127 @@
+-- What a call with a script answers, case by case: refused by a length or the pattern's test, by the script's form or base, or as its operators run.
+use mathlib.Core.Path.{_≡_, refl, sym, ap, _∙_}
+use mathlib.Core.Logic.{_≢_}
+use mathlib.Core.Bool.{Bool, true, false, cond, _&&_}
+use mathlib.Core.List.{List}
+use Prim.Native.Nat.{ℕ, zero, suc, _+_, _<_, _≤_}
+use native.Mathlib.Omega.{arith}
+use lib.Dec.{eqb, ltb}
+use lib.ListN.{length, getD}
+use borrow.Author.Tests.{le-leb, lt-leb}
+use Rattle.maths.specs.Tests.{all}
+use Rattle.maths.specs.Repeat.{repeat}
+use Rattle.maths.proofs.Cases.{bool-or}
+use Rattle.rules.specs.declared.answers.ScriptRun.{ScriptRun}
+use Rattle.rules.specs.declared.form.Fault.{Fault}
+use Rattle.rules.specs.declared.form.Field.{Field}
+use Rattle.rules.specs.Refusals.{accepted, wrongLength, notGood, stale}
+use Rattle.rules.specs.Counts.{countOf}
+use Rattle.rules.specs.Complex.{Pattern, complex, countsOf, stored}
+use Rattle.rules.specs.Good.{isGood}
+use Rattle.rules.specs.Form.{operatorAt, byteAt, wordAt, countsAt, operatorsAt, scriptForm, faultNumber}
+use Rattle.rules.specs.Script.{Ended, ended, runFrom, sameBase, runScript}
+use Rattle.rules.specs.Calls.{Lent, lent, sized, runCall}
+use Rattle.rules.proofs.Fields.{bad-field, after-got, after-operator, word-says}
+use Rattle.rules.proofs.Stored.{Sized, stored-complex}
+use Rattle.good.specs.Tested.{tested}
+use Rattle.engine.specs.Running.{here, RunTo}
+use Rattle.engine.proofs.Answers.{sized-good, held}
+
+module _ (s : List ℕ) where
+  -- the number of a list of operators is the one it was read for
+  number-is : (count n at : ℕ) {x : ℕ} → operatorsAt s count n at ≡ Field.Got x → x ≡ count
+  unfolding operatorsAt repeat
+  number-is count zero at e =
+      bool-or (ltb at (length s))
+      (λ t. absurd (bad-field (Fault.Left at) (rw t at e)))
+      (λ t. let q = rw t at e in cc q)
+  number-is count (suc n) at e = let a = after-operator (operatorAt s at) bad-field e in number-is count n (a .1) (a .3)
+
+  -- a script in form has its base counts, and at most 1,024 operators
+  pub script-says : {n : ℕ} → scriptForm s ≡ Field.Got n → (4 < length s) × (n ≤ 1024)
+  unfolding scriptForm
+  script-says e =
+      let a = after-got (byteAt s 0 4 4) bad-field e in
+      let b = after-got (countsAt s 4 1) bad-field (a .2) in
+      let c = after-got (wordAt s 5 1024) bad-field (b .2) in
+      let w = word-says s 5 1024 (c .0) (c .1) in
+      (omega (arith, w .there), omega (arith, w .most, number-is (c .0) (c .0) 7 (c .2)))
+
+-- how a run is answered
+abbrev answered : Ended → Lent ScriptRun
+answered e = lent (record { counts = countsOf (e .now); ran = e .ran; refusal = e .refusal }) (stored (e .now))
+
+-- that is, by the pattern that is held
+held-answer : {q : Pattern} (ran refusal : ℕ) → Sized q →
+    lent (record { counts = q .counts; ran = ran; refusal = refusal }) q ≡ answered (ended (complex q) ran refusal)
+held-answer {q} ran refusal S = ap (λ (x : Pattern). lent (record { counts = x .counts; ran = ran; refusal = refusal }) x) (sym (stored-complex q S))
+
+and-false : (a : Bool) → a && false ≡ false
+and-false true = refl
+and-false false = refl
+
+and-true : (a : Bool) → a && true ≡ a
+and-true true = refl
+and-true false = refl
+
+module _ (p : Pattern) (s : List ℕ) where
+  -- a call refused by r runs nothing
+  abbrev idle : ℕ → Lent ScriptRun
+  idle r = lent (record { counts = p .counts; ran = 0; refusal = r }) p
+
+  -- 1, by the script
+  pub too-long : 24576 < length s → idle wrongLength ≡ runCall p s
+  unfolding runCall
+  too-long h = rw (lt-leb (length s) 24576 h, and-false (sized p))
+
+  module _ (short : length s ≤ 24576) where
+    -- 1 or 2, by the pattern
+    pub run-refused : {r : ℕ} → r ≡ tested p → r ≢ accepted → idle r ≡ runCall p s
+    unfolding tested runCall
+    run-refused {r} e n = rw (le-leb (length s) 24576 short, and-true (sized p)) (go (sized p) (isGood (complex p)) _ e)
+      where
+        go : (long good : Bool) (a : Lent ScriptRun) → r ≡ cond long (cond good accepted notGood) wrongLength →
+            idle r ≡ cond long (cond good a (idle notGood)) (idle wrongLength)
+        go true true a e = absurd (n e)
+        go true false a e = ap idle e
+        go false good a e = ap idle e
+
+    module _ (four : length (p .counts .n) ≡ 4) (e : tested p ≡ accepted) where
+      -- what the script answers on a good pattern
+      as-script : answered (runScript s (complex p)) ≡ runCall p s
+      unfolding runCall
+      as-script = let g = sized-good p e in rw (g .0, g .1, le-leb (length s) 24576 short)
+
+      sizes : Sized p
+      sizes = held p four e .sized
+
+      -- 3, 4 or 14
+      faulty : {r : ℕ} {f : Fault} → scriptForm s ≡ Field.Bad f → r ≡ faultNumber f → ended (complex p) 0 r ≡ runScript s (complex p)
+      unfolding runScript
+      faulty b q = rw (b, q)
+
+      pub run-faulty : {r : ℕ} {f : Fault} → scriptForm s ≡ Field.Bad f → r ≡ faultNumber f → idle r ≡ runCall p s
+      run-faulty {r} b q = held-answer 0 r sizes ∙ ap answered (faulty b q) ∙ as-script
+
+      module _ {n : ℕ} (d : scriptForm s ≡ Field.Got n) {same : Bool}
+          (is : same ≡ all 4 (λ k. eqb (getD s (k + 1) 0) (countOf (p .counts) k))) where
+        base-is : sameBase s (complex p) ≡ same
+        unfolding sameBase all
+        base-is = sym is
+
+        -- 13
+        other : same ≡ false → ended (complex p) 0 stale ≡ runScript s (complex p)
+        unfolding runScript
+        other t = rw (d, base-is ∙ t)
+
+        pub run-stale : same ≡ false → idle stale ≡ runCall p s
+        run-stale t = held-answer 0 stale sizes ∙ ap answered (other t) ∙ as-script
+
+        -- the operators run
+        whole : same ≡ true → runFrom s n (here (complex p) 0 7) ≡ runScript s (complex p)
+        unfolding runScript
+        whole t = rw (d, base-is ∙ t)
+
+        pub run-done : {ran refusal : ℕ} {q : Pattern} → same ≡ true → RunTo s n p ran refusal q →
+            lent (record { counts = q .counts; ran = ran; refusal = refusal }) q ≡ runCall p s
+        run-done {ran} {refusal} t R = held-answer ran refusal (R .held .sized) ∙ ap answered (R .is ∙ whole t) ∙ as-script

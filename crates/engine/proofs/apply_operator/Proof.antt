@@ -1,0 +1,65 @@
+-- `engine::apply_operator` meets its contract: each return is one of the answers of a call with one operator.
+use mathlib.Core.Path.{_≡_, sym, _∙_}
+use borrow.Author.Needs.{needs}
+use lib.ListN.{length}
+use Rattle.rules.specs.Refusals.{accepted}
+use Rattle.rules.specs.Complex.{Pattern, pattern}
+use Rattle.good.specs.Tested.{tested}
+use Rattle.engine.proofs.Answers.{lone-read, held, apply-refused, apply-faulty, apply-done}
+use Rattle.engine.proofs.apply_operator.Statement.{statement}
+use Rattle.engine.proofs.apply_operator.Tie as tie
+
+-- the pattern that was lent
+abbrev entry : tie.Start → Pattern
+entry start = let a = start .args in pattern (a .c) (a .m1 .now) (a .m2 .now) (a .m3 .now)
+
+-- it passed its test
+passed : (c : tie.Else1) → tested (entry (c .before .before .before .before .before .before)) ≡ accepted
+passed c = sym (c .before .refusal-of-pattern .ensures) ∙ c .if1 .left
+
+not-good : tie.Need-returns
+not-good c = apply-refused _ _ (c .before .refusal-of-pattern .ensures) (c .if1 .taken)
+
+apply-requires : tie.Need-apply-requires
+apply-requires c κs =
+    let arm = c .before .before .before .before in
+    let call = arm .before .before in
+    let start = call .before .before .before .before .before .before .before in
+    let four : length (start .args .c .n) ≡ 4 = search needs in
+    (held (entry start) four (passed (call .before)), lone-read (sym (call .form-of-operator .ensures) ∙ arm .o .given .1))
+
+not-in-form : tie.Need-returns-2
+not-in-form c =
+    let arm = c .before .before in
+    let call = arm .before .before in
+    apply-faulty _ _ (passed (call .before)) (sym (call .form-of-operator .ensures) ∙ arm .f .given .1) (c .refusal-of .ensures)
+
+done : tie.Need-returns-3
+done c =
+    let a = c .before .before .before in
+    let arm = a .before .before .before .before .before in
+    let call = arm .before .before in
+    apply-done _ _ (passed (call .before)) (sym (call .form-of-operator .ensures) ∙ arm .o .given .1) (a .apply .ensures)
+
+pub apply-operator-spec : {M : Type 1} → statement M
+apply-operator-spec =
+    tie.close
+    (tie.spec
+    (λ c κs. search needs)
+    (λ c. search needs)
+    (λ c. search needs)
+    (λ c. search needs)
+    not-good
+    (λ c κs. search needs)
+    (λ c. search needs)
+    (λ c κs. search needs)
+    (λ c. search needs)
+    apply-requires
+    (λ c. search needs)
+    (λ c. search needs)
+    (λ c. search needs)
+    not-in-form
+    (λ c. search needs)
+    (λ c. search needs)
+    (λ c. search needs)
+    done)

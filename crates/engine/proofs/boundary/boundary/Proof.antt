@@ -1,0 +1,81 @@
+-- `engine::boundary::boundary` meets its contract: each return is one of the call's answers.
+use mathlib.Core.Path.{_≡_, sym, _∙_}
+use mathlib.Core.Bool.{true, _&&_}
+use borrow.Author.Needs.{needs}
+use borrow.Author.Tests.{not-true, not-false, eqb-true}
+use Rattle.maths.proofs.Cases.{and-left}
+use Rattle.rules.specs.Refusals.{accepted}
+use Rattle.rules.specs.Complex.{Pattern, pattern}
+use Rattle.rules.specs.Form.{within}
+use Rattle.rules.specs.Calls.{sizedChain}
+use Rattle.good.specs.Tested.{tested}
+use Rattle.engine.proofs.Dimensions.{below-four}
+use Rattle.engine.proofs.Boundaries.{boundary-short, boundary-refused, boundary-form, boundary-chain, factors, boundary-done}
+use Rattle.engine.proofs.boundary.boundary.Statement.{statement}
+use Rattle.engine.proofs.boundary.boundary.Tie as tie
+
+-- the pattern that was lent
+abbrev lent : tie.Start → Pattern
+lent s = pattern (s .args .c) (s .args .m1 .now) (s .args .m2 .now) (s .args .m3 .now)
+
+-- the chains are 96 long
+sized : (c : tie.Else1) → sizedChain (c .before .args .chain .now) && sizedChain (c .before .args .out .now) ≡ true
+sized c = not-false _ (c .if1 .left)
+
+-- the pattern passed its test
+passed : (c : tie.Else2) → tested (lent (c .before .before .before)) ≡ accepted
+passed c = sym (c .before .refusal-of-pattern .ensures) ∙ c .if2 .left
+
+-- the dimension is 1, 2 or 3
+ranged : (c : tie.Else3) → within 1 3 (c .before .before .before .before .args .d) ≡ true
+ranged c = not-false _ (c .if3 .left)
+
+returns : tie.Need-returns
+returns c = boundary-short _ _ _ _ (not-true _ (c .if1 .taken))
+
+returns-2 : tie.Need-returns-2
+returns-2 c = boundary-refused _ _ _ _ (sized (c .before .before)) (c .before .refusal-of-pattern .ensures) (c .if2 .taken)
+
+returns-3 : tie.Need-returns-3
+returns-3 c =
+    let s = c .before .before .before .before in
+    boundary-form (lent s) (s .args .d) _ _ (sized (c .before .before .before)) (passed (c .before)) (not-true _ (c .if3 .taken))
+
+array-read-is-chain : tie.Need-array-read-is-chain
+array-read-is-chain c = below-four _ (ranged (c .before))
+
+is-chain-requires : tie.Need-is-chain-requires
+is-chain-requires c κs =
+    let long = c .before .before .before .before in
+    let s = long .before in
+    eqb-true _ _ (and-left (sizedChain (s .args .chain .now)) (sizedChain (s .args .out .now)) (sized long))
+
+returns-4 : tie.Need-returns-4
+returns-4 c =
+    let test = c .before .before .before in
+    let long = test .before .before .before in
+    let s = long .before in
+    boundary-chain (lent s) (s .args .d) (s .args .chain .now) (s .args .out .now) (sized long) (passed (test .before)) (ranged test)
+    (sym (c .before .is-chain .ensures) ∙ not-true _ (c .if4 .taken))
+
+multiply-at-requires : tie.Need-multiply-at-requires
+multiply-at-requires c κs =
+    let test = c .before .before .before .before in
+    let long = test .before .before .before in
+    let s = long .before in
+    factors (lent s) (s .args .d) (s .args .chain .now) (s .args .out .now) (sized long) (passed (test .before)) (ranged test)
+    (sym (c .before .before .is-chain .ensures) ∙ not-false _ (c .before .if4 .left))
+
+returns-5 : tie.Need-returns-5
+returns-5 c =
+    let chain = c .before .before .before in
+    let test = chain .before .before .before in
+    let long = test .before .before .before in
+    let s = long .before in
+    boundary-done (lent s) (s .args .d) (s .args .chain .now) (s .args .out .now) (sized long) (passed (test .before)) (ranged test)
+    (sym (chain .before .is-chain .ensures) ∙ not-false _ (chain .if4 .left)) (c .before .multiply-at .ensures)
+
+pub boundary-spec : {M : Type 1} → statement M
+boundary-spec =
+    tie.close (tie.spec returns (λ c κs. search needs) returns-2 returns-3 array-read-is-chain is-chain-requires returns-4
+    multiply-at-requires (λ c. search needs) returns-5)

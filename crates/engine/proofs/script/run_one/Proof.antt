@@ -1,0 +1,51 @@
+-- `engine::script::run_one` meets its contract: the bytes are not in form, or the operator is applied.
+use mathlib.Core.Path.{sym, _∙_}
+use borrow.Author.Needs.{needs}
+use Rattle.rules.specs.Complex.{Pattern, pattern}
+use Rattle.engine.proofs.Runs.{turn-faulty, source, turn-done}
+use Rattle.engine.proofs.script.run_one.Statement.{statement}
+use Rattle.engine.proofs.script.run_one.Tie as tie
+
+-- the pattern at entry
+abbrev entry : tie.Start → Pattern
+entry start = let a = start .args in pattern (a .c) (a .m1 .now) (a .m2 .now) (a .m3 .now)
+
+apply-requires : tie.Need-apply-requires
+apply-requires c κs =
+    let arm = c .before .before .before .before in
+    let call = arm .before .before in
+    let start = call .before .before in
+    let a = start .args in
+    (start .pre, source (a .s .now) (a .at) (entry start) (start .pre) (sym (call .read-operator .ensures) ∙ arm .o .given .1))
+
+not-in-form : tie.Need-returns
+not-in-form c =
+    let arm = c .before .before in
+    let call = arm .before .before in
+    let start = call .before .before in
+    let a = start .args in
+    turn-faulty (a .s .now) (a .at) (entry start) (start .pre) (sym (call .read-operator .ensures) ∙ arm .f .given .1) (c .refusal-of .ensures)
+
+applied : tie.Need-returns-2
+applied c =
+    let done = c .before .before .before .before in
+    let arm = done .before .before .before .before .before in
+    let call = arm .before .before in
+    let start = call .before .before in
+    let a = start .args in
+    turn-done (a .s .now) (a .at) (entry start) (start .pre) (sym (call .read-operator .ensures) ∙ arm .o .given .1) (done .apply .ensures)
+
+pub run-one-spec : {M : Type 1} → statement M
+run-one-spec =
+    tie.close
+    (tie.spec
+    (λ c κs. search needs)
+    (λ c. search needs)
+    (λ c κs. search needs)
+    (λ c. search needs)
+    apply-requires
+    not-in-form
+    (λ c. search needs)
+    (λ c. search needs)
+    (λ c. search needs)
+    applied)

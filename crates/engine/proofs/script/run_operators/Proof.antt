@@ -1,0 +1,104 @@
+-- `engine::script::run_operators` turns as `repeat` does: what is left to run, from the pattern and place that it holds, is always the whole.
+use mathlib.Core.Path.{sym, _∙_}
+use native.Mathlib.Omega.{arith}
+use Rattle.rules.specs.Complex.{Pattern, pattern}
+use Rattle.rules.proofs.Stored.{Sized}
+use Rattle.engine.proofs.Runs.{Under, run-starts, run-more, run-stops, run-ends}
+use Rattle.engine.proofs.script.run_operators.Statement.{statement}
+use Rattle.engine.proofs.script.run_operators.Tie as tie
+
+abbrev Inv-loop : tie.InvT-loop
+Inv-loop n s m1₀ m2₀ m3₀ counts₀ place₀ left₀ ran₀ m1 m2 m3 counts place left ran =
+    Under s n (pattern counts₀ m1₀ m2₀ m3₀) left ran place (pattern counts m1 m2 m3)
+
+abbrev μ-loop : tie.MeasureT-loop
+μ-loop n s m1₀ m2₀ m3₀ counts₀ place₀ left₀ ran₀ m1 m2 m3 counts place left ran = left
+
+-- the pattern at entry
+abbrev entry : (c : tie.Start Inv-loop μ-loop) → Pattern
+entry c = let a = c .args in pattern (a .c) (a .m1 .now) (a .m2 .now) (a .m3 .now)
+
+loop-holds : tie.Need-loop-holds Inv-loop μ-loop
+loop-holds c = let start = c .before in run-starts (start .args .s .now) (start .args .n) (entry start) (start .pre)
+
+run-one-requires : tie.Need-run-one-requires Inv-loop μ-loop
+run-one-requires c κs = c .before .before .before .before .loop .inv .held
+
+-- every pattern on the way is as long as the one at entry
+at-entry : (c : tie.At-loop Inv-loop μ-loop) → Sized (entry (c .before .before))
+at-entry c = c .before .before .pre .held .sized
+
+same-length : tie.Need-same-length Inv-loop μ-loop
+same-length c =
+    let call = c .before .before .before .before .before .before in
+    call .run-one .ensures .held .sized .size1 ∙ sym (at-entry (call .before .before .before .before .before) .size1)
+
+same-length-2 : tie.Need-same-length-2 Inv-loop μ-loop
+same-length-2 c =
+    let call = c .before .before .before .before .before .before in
+    call .run-one .ensures .held .sized .size2 ∙ sym (at-entry (call .before .before .before .before .before) .size2)
+
+same-length-3 : tie.Need-same-length-3 Inv-loop μ-loop
+same-length-3 c =
+    let call = c .before .before .before .before .before .before in
+    call .run-one .ensures .held .sized .size3 ∙ sym (at-entry (call .before .before .before .before .before) .size3)
+
+stopped : tie.Need-returns Inv-loop μ-loop
+stopped c =
+    let call = c .before .before .before .before .before .before in
+    let loop = call .before .before .before .before .before in
+    let start = loop .before .before in
+    let a = start .args in
+    run-stops (a .s .now) (a .n) (entry start) (loop .loop .inv) (call .run-one .ensures)
+    (call .before .before .before .before .loop-test .taken) (c .if1 .taken)
+
+ran-fits : tie.Need-add-ran Inv-loop μ-loop
+ran-fits c =
+    let call = c .before .before .before .before .before .before in
+    let U = call .before .before .before .before .before .loop .inv in
+    omega (arith, U .count, U .few)
+
+loop-again : tie.Need-loop-again Inv-loop μ-loop
+loop-again c =
+    let call = c .before .before .before .before .before .before in
+    let loop = call .before .before .before .before .before in
+    let start = loop .before .before in
+    let a = start .args in
+    run-more (a .s .now) (a .n) (entry start) (loop .loop .inv) (call .run-one .ensures)
+    (call .before .before .before .before .loop-test .taken) (c .if1 .left)
+
+same-length-4 : tie.Need-same-length-4 Inv-loop μ-loop
+same-length-4 c = c .before .loop .inv .held .sized .size1 ∙ sym (at-entry (c .before) .size1)
+
+same-length-5 : tie.Need-same-length-5 Inv-loop μ-loop
+same-length-5 c = c .before .loop .inv .held .sized .size2 ∙ sym (at-entry (c .before) .size2)
+
+same-length-6 : tie.Need-same-length-6 Inv-loop μ-loop
+same-length-6 c = c .before .loop .inv .held .sized .size3 ∙ sym (at-entry (c .before) .size3)
+
+all-run : tie.Need-returns-2 Inv-loop μ-loop
+all-run c =
+    let start = c .before .before .before in
+    let a = start .args in
+    run-ends (a .s .now) (a .n) (entry start) (c .before .loop .inv) (omega arith)
+
+pub run-operators-spec : {M : Type 1} → statement M
+run-operators-spec =
+    tie.close
+    (tie.spec
+    Inv-loop
+    μ-loop
+    loop-holds
+    run-one-requires
+    same-length
+    same-length-2
+    same-length-3
+    stopped
+    ran-fits
+    (λ c. omega arith)
+    (λ c. omega arith)
+    loop-again
+    same-length-4
+    same-length-5
+    same-length-6
+    all-run)

@@ -1,0 +1,4 @@
+pub mod Source
+pub mod Running
+pub mod Numbers
+pub mod Boundaries

@@ -1,0 +1,74 @@
+// The public calls.
+ghost use mathlib.Core.Path.{_≡_};
+ghost use Rattle.rules.specs.Complex.{pattern};
+ghost use Rattle.rules.specs.Calls.{lent, applyCall, runCall};
+use crate::apply::apply;
+use crate::script::run_operators;
+use crate::script::same_base;
+use form::fields::refusal_of;
+use form::operators::form_of_operator;
+use form::script::form_of_script;
+use good::refusal_of_pattern;
+use rules::answers::Applied;
+use rules::answers::ScriptRun;
+use rules::counts::Counts;
+use rules::form::Field;
+use rules::form::OperatorForm;
+use rules::refusals::ACCEPTED;
+use rules::refusals::STALE;
+use rules::refusals::WRONG_LENGTH;
+
+pub mod apply;
+pub mod boundary;
+pub mod euler;
+mod script;
+
+// One operator, of which s are the bytes, on a lent pattern.
+pub fn apply_operator(c: Counts, m1: &mut [i8], m2: &mut [i8], m3: &mut [i8], s: &[u8]) -> Applied
+    ensures { λ r. ⌜ lent r (pattern (r .counts) (now (m1 .exit)) (now (m2 .exit)) (now (m3 .exit))) ≡ applyCall (pattern c (now (m1 .entry)) (now (m2 .entry)) (now (m3 .entry))) (now (s .entry)) ⌝ }
+{
+    let refusal = refusal_of_pattern(c, m1, m2, m3);
+    if refusal != ACCEPTED {
+        return Applied { counts: c, refusal };
+    }
+    match form_of_operator(s) {
+        OperatorForm::Bad(f) => Applied {
+            counts: c,
+            refusal: refusal_of(f),
+        },
+        OperatorForm::Decoded(o, _) => apply(c, o, s, m1, m2, m3),
+    }
+}
+
+// The answer of a script that runs nothing.
+fn idle(c: Counts, refusal: u8) -> ScriptRun
+    ensures { λ r. ⌜ r ≡ record { counts = c; ran = 0; refusal = refusal } ⌝ }
+{
+    ScriptRun {
+        counts: c,
+        ran: 0,
+        refusal,
+    }
+}
+
+// The script s on a lent pattern, up to the first refusal.
+pub fn run_script(c: Counts, m1: &mut [i8], m2: &mut [i8], m3: &mut [i8], s: &[u8]) -> ScriptRun
+    ensures { λ r. ⌜ lent r (pattern (r .counts) (now (m1 .exit)) (now (m2 .exit)) (now (m3 .exit))) ≡ runCall (pattern c (now (m1 .entry)) (now (m2 .entry)) (now (m3 .entry))) (now (s .entry)) ⌝ }
+{
+    if 24576 < s.len() {
+        return idle(c, WRONG_LENGTH);
+    }
+    let refusal = refusal_of_pattern(c, m1, m2, m3);
+    if refusal != ACCEPTED {
+        return idle(c, refusal);
+    }
+    match form_of_script(s) {
+        Field::Bad(f) => idle(c, refusal_of(f)),
+        Field::Got(n) => {
+            if !same_base(c, s) {
+                return idle(c, STALE);
+            }
+            run_operators(c, n, s, m1, m2, m3)
+        }
+    }
+}

@@ -1,0 +1,93 @@
+// A script's operators, one after another.
+ghost use mathlib.Core.Path.{_≡_};
+ghost use Prim.Native.Nat.{_+_, _<_};
+ghost use lib.Dec.{eqb};
+ghost use lib.ListN.{length, getD};
+ghost use Rattle.maths.specs.Tests.{all};
+ghost use Rattle.rules.specs.Counts.{countOf};
+ghost use Rattle.rules.specs.Complex.{pattern};
+ghost use Rattle.operators.specs.Held.{Held};
+ghost use Rattle.engine.specs.Running.{Runnable, Turned, RunTo};
+use crate::apply::apply;
+use form::fields::refusal_of;
+use form::operators::read_operator;
+use rules::answers::ScriptRun;
+use rules::counts::Counts;
+use rules::form::OperatorForm;
+use rules::refusals::ACCEPTED;
+
+// After one operator: the counts, the place after it, and its refusal.
+pub struct OneRun {
+    pub counts: Counts,
+    pub next: usize,
+    pub refusal: u8,
+}
+
+// Whether the base counts of a script are c.
+pub(crate) fn same_base(c: Counts, s: &[u8]) -> bool
+    requires { ⌜ 4 < length (now s) ⌝ }
+    ensures { λ r. ⌜ r ≡ all 4 (λ k. eqb (getD (now (s .entry)) (k + 1) 0) (countOf c k)) ⌝ }
+{
+    (s[1] == c.n[0]) & (s[2] == c.n[1]) & (s[3] == c.n[2]) & (s[4] == c.n[3])
+}
+
+// The operator at `at`.
+fn run_one(c: Counts, s: &[u8], at: usize, m1: &mut [i8], m2: &mut [i8], m3: &mut [i8]) -> OneRun
+    requires { ⌜ Held (pattern c (now m1) (now m2) (now m3)) ⌝ }
+    ensures { λ r. ⌜ Turned (now (s .entry)) at (pattern c (now (m1 .entry)) (now (m2 .entry)) (now (m3 .entry))) (r .next) (r .refusal) (pattern (r .counts) (now (m1 .exit)) (now (m2 .exit)) (now (m3 .exit))) ⌝ }
+{
+    match read_operator(s, at) {
+        OperatorForm::Bad(f) => OneRun {
+            counts: c,
+            next: at,
+            refusal: refusal_of(f),
+        },
+        OperatorForm::Decoded(o, next) => {
+            let done = apply(c, o, s, m1, m2, m3);
+            let counts = done.counts;
+            OneRun {
+                counts,
+                next,
+                refusal: done.refusal,
+            }
+        }
+    }
+}
+
+// n operators from place 7 on, up to the first refusal.
+pub(crate) fn run_operators(
+    c: Counts,
+    n: usize,
+    s: &[u8],
+    m1: &mut [i8],
+    m2: &mut [i8],
+    m3: &mut [i8],
+) -> ScriptRun
+    requires { ⌜ Runnable n (pattern c (now m1) (now m2) (now m3)) ⌝ }
+    ensures { λ r. ⌜ RunTo (now (s .entry)) n (pattern c (now (m1 .entry)) (now (m2 .entry)) (now (m3 .entry))) (r .ran) (r .refusal) (pattern (r .counts) (now (m1 .exit)) (now (m2 .exit)) (now (m3 .exit))) ⌝ }
+{
+    let mut counts = c;
+    let mut place: usize = 7;
+    let mut left = n;
+    let mut ran: u16 = 0;
+    while 0 < left {
+        let one = run_one(counts, s, place, m1, m2, m3);
+        let next = one.counts;
+        counts = next;
+        if one.refusal != ACCEPTED {
+            return ScriptRun {
+                counts,
+                ran,
+                refusal: one.refusal,
+            };
+        }
+        place = one.next;
+        ran += 1;
+        left -= 1;
+    }
+    ScriptRun {
+        counts,
+        ran,
+        refusal: ACCEPTED,
+    }
+}
