@@ -1,9 +1,12 @@
-// The engine for C and Rust: numbers and slices only. A slice is a pointer and then a length.
+// The engine for C and Rust: numbers, arrays of four counts, and slices, each a pointer and then a length.
 ghost use mathlib.Core.Path.{_≡_};
-ghost use mathlib.Core.List.{[], _∷_};
 ghost use Rattle.rules.specs.Complex.{pattern, countsOf, empty};
-ghost use Rattle.rules.specs.Calls.{lent, readCall, writeCall};
+ghost use Rattle.rules.specs.Calls.{lent, readCall, writeCall, eulerCall, applyCall, runCall, boundaryCall};
 ghost use Rattle.good.specs.Tested.{tested};
+use engine::apply_operator;
+use engine::boundary::boundary;
+use engine::euler::euler;
+use engine::run_script;
 use good::refusal_of_pattern;
 use mesh::reader::read_mesh;
 use mesh::writer::write_mesh;
@@ -11,20 +14,10 @@ use rules::counts::Counts;
 
 // Whether the pattern is good: 0, or the refusal 1 or 2.
 #[no_mangle]
-pub extern "C" fn mbyasoka_check(
-    n0: u8,
-    n1: u8,
-    n2: u8,
-    n3: u8,
-    m1: &[i8],
-    m2: &[i8],
-    m3: &[i8],
-) -> u8
-    ensures { λ r. ⌜ r ≡ tested (pattern (record { n = n0 ∷ n1 ∷ n2 ∷ n3 ∷ [] }) (now (m1 .entry)) (now (m2 .entry)) (now (m3 .entry))) ⌝ }
+pub extern "C" fn mbyasoka_check(counts: &[u8; 4], m1: &[i8], m2: &[i8], m3: &[i8]) -> u8
+    ensures { λ r. ⌜ r ≡ tested (pattern (record { n = now (counts .entry) }) (now (m1 .entry)) (now (m2 .entry)) (now (m3 .entry))) ⌝ }
 {
-    let c = Counts {
-        n: [n0, n1, n2, n3],
-    };
+    let c = Counts { n: *counts };
     refusal_of_pattern(c, m1, m2, m3)
 }
 
@@ -51,22 +44,92 @@ pub extern "C" fn mbyasoka_read_mesh(
 // Writes the pattern as a mesh: the refusal, and how many bytes were written.
 #[no_mangle]
 pub extern "C" fn mbyasoka_write_mesh(
-    n0: u8,
-    n1: u8,
-    n2: u8,
-    n3: u8,
+    counts: &[u8; 4],
     m1: &[i8],
     m2: &[i8],
     m3: &[i8],
     out: &mut [u8],
     written: &mut usize,
 ) -> u8
-    ensures { λ r. ⌜ record { answer = record { written = now (written .exit); refusal = r }; out = now (out .exit) } ≡ writeCall (pattern (record { n = n0 ∷ n1 ∷ n2 ∷ n3 ∷ [] }) (now (m1 .entry)) (now (m2 .entry)) (now (m3 .entry))) (now (out .entry)) ⌝ }
+    ensures { λ r. ⌜ record { answer = record { written = now (written .exit); refusal = r }; out = now (out .exit) } ≡ writeCall (pattern (record { n = now (counts .entry) }) (now (m1 .entry)) (now (m2 .entry)) (now (m3 .entry))) (now (out .entry)) ⌝ }
 {
-    let c = Counts {
-        n: [n0, n1, n2, n3],
-    };
+    let c = Counts { n: *counts };
     let answer = write_mesh(c, m1, m2, m3, out);
     *written = answer.written;
     answer.refusal
+}
+
+// The Euler number of the pattern: the refusal, and the number.
+#[no_mangle]
+pub extern "C" fn mbyasoka_euler(
+    counts: &[u8; 4],
+    m1: &[i8],
+    m2: &[i8],
+    m3: &[i8],
+    number: &mut i16,
+) -> u8
+    ensures { λ r. ⌜ record { number = now (number .exit); refusal = r } ≡ eulerCall (pattern (record { n = now (counts .entry) }) (now (m1 .entry)) (now (m2 .entry)) (now (m3 .entry))) ⌝ }
+{
+    let c = Counts { n: *counts };
+    let answer = euler(c, m1, m2, m3);
+    let value = answer.number;
+    *number = value;
+    answer.refusal
+}
+
+// One operator, of which s are the bytes, on the pattern: the refusal, and the counts after it.
+#[no_mangle]
+pub extern "C" fn mbyasoka_apply_operator(
+    counts: &mut [u8; 4],
+    m1: &mut [i8],
+    m2: &mut [i8],
+    m3: &mut [i8],
+    s: &[u8],
+) -> u8
+    ensures { λ r. ⌜ lent (record { counts = record { n = now (counts .exit) }; refusal = r }) (pattern (record { n = now (counts .exit) }) (now (m1 .exit)) (now (m2 .exit)) (now (m3 .exit))) ≡ applyCall (pattern (record { n = now (counts .entry) }) (now (m1 .entry)) (now (m2 .entry)) (now (m3 .entry))) (now (s .entry)) ⌝ }
+{
+    let c = Counts { n: *counts };
+    let answer = apply_operator(c, m1, m2, m3, s);
+    let after = answer.counts;
+    let n = after.n;
+    *counts = n;
+    answer.refusal
+}
+
+// The script s on the pattern, up to the first refusal: that refusal, the counts after it, and how many operators were accepted.
+#[no_mangle]
+pub extern "C" fn mbyasoka_run_script(
+    counts: &mut [u8; 4],
+    m1: &mut [i8],
+    m2: &mut [i8],
+    m3: &mut [i8],
+    s: &[u8],
+    ran: &mut u16,
+) -> u8
+    ensures { λ r. ⌜ lent (record { counts = record { n = now (counts .exit) }; ran = now (ran .exit); refusal = r }) (pattern (record { n = now (counts .exit) }) (now (m1 .exit)) (now (m2 .exit)) (now (m3 .exit))) ≡ runCall (pattern (record { n = now (counts .entry) }) (now (m1 .entry)) (now (m2 .entry)) (now (m3 .entry))) (now (s .entry)) ⌝ }
+{
+    let c = Counts { n: *counts };
+    let answer = run_script(c, m1, m2, m3, s);
+    let reached = answer.counts;
+    let n = reached.n;
+    *counts = n;
+    *ran = answer.ran;
+    answer.refusal
+}
+
+// The boundary of a chain of cells of dimension d: the refusal, and the chain of their faces.
+#[no_mangle]
+pub extern "C" fn mbyasoka_boundary(
+    counts: &[u8; 4],
+    m1: &[i8],
+    m2: &[i8],
+    m3: &[i8],
+    d: u8,
+    chain: &[i32],
+    out: &mut [i32],
+) -> u8
+    ensures { λ r. ⌜ record { refusal = r; out = now (out .exit) } ≡ boundaryCall (pattern (record { n = now (counts .entry) }) (now (m1 .entry)) (now (m2 .entry)) (now (m3 .entry))) d (now (chain .entry)) (now (out .entry)) ⌝ }
+{
+    let c = Counts { n: *counts };
+    boundary(c, m1, m2, m3, d, chain, out)
 }
