@@ -1,47 +1,26 @@
-//! The engine and the same work in plain Rust, timed in one run.
-mod engine;
+//! The engine and the same work in plain Rust, timed in one run: prints the tables of docs/SPEED.md.
+mod inputs;
 mod plain;
 
-use plain::Pattern;
+use inputs::Timed;
+use mbyasoka::Pattern as Engine;
+use plain::pattern::Pattern as Plain;
 use std::hint::black_box;
 use std::time::Instant;
 
-/// 96 of everything, each panel and block with 96 faces: the largest mesh, 37,252 bytes.
-fn full_mesh() -> Vec<u8> {
-    let mut s = vec![96, 96];
-    s.extend([0, 1].repeat(96));
-    // Panel j is ± the same ring, by turns; in a block all panels have one sign.
-    for alternating in [1, 0] {
-        s.push(96);
-        for j in 0..96u8 {
-            s.push(96);
-            for i in 0..96u8 {
-                s.extend([i, 1 + (alternating * i + j) % 2]);
-            }
-        }
-    }
-    s
-}
-
-/// The triangle: three corners, three seams, one panel.
-fn small_mesh() -> Vec<u8> {
-    vec![3, 3, 0, 2, 0, 1, 1, 2, 1, 3, 0, 2, 1, 1, 2, 1, 0]
-}
-
 /// Nanoseconds of the fastest of several batches of each, the two in turn.
-fn time(calls: u32, mut a: impl FnMut(), mut b: impl FnMut()) -> (f64, f64) {
+fn time(calls: u32, mut engine: impl FnMut(), mut plain: impl FnMut()) -> (f64, f64) {
     let mut best = (f64::MAX, f64::MAX);
+    let batch = |work: &mut dyn FnMut()| {
+        let start = Instant::now();
+        for _ in 0..calls {
+            work();
+        }
+        start.elapsed().as_nanos() as f64 / calls as f64
+    };
     for _ in 0..40 {
-        let start = Instant::now();
-        for _ in 0..calls {
-            a();
-        }
-        best.0 = best.0.min(start.elapsed().as_nanos() as f64 / calls as f64);
-        let start = Instant::now();
-        for _ in 0..calls {
-            b();
-        }
-        best.1 = best.1.min(start.elapsed().as_nanos() as f64 / calls as f64);
+        best.0 = best.0.min(batch(&mut engine));
+        best.1 = best.1.min(batch(&mut plain));
     }
     best
 }
@@ -50,36 +29,97 @@ fn row(name: &str, (engine, rust): (f64, f64)) {
     println!("| {name} | {engine:.0} | {rust:.0} | {:.2} |", engine / rust);
 }
 
-fn compare(size: &str, mesh: &[u8], calls: u32) {
-    let (mut e, mut p) = (Pattern::empty(), Pattern::empty());
+fn same(e: &Engine, p: &Plain) -> bool {
+    e.counts == p.n && e.matrices == p.m
+}
+
+/// The mesh as both read it.
+fn both(mesh: &[u8]) -> (Box<Engine>, Box<Plain>) {
+    let (mut e, mut p) = (Box::<Engine>::default(), Box::new(Plain::empty()));
+    assert_eq!(e.read(mesh), Ok(mesh.len()));
+    assert_eq!(plain::mesh::read_mesh(mesh, &mut p), (mesh.len(), 0));
+    assert!(same(&e, &p));
+    (e, p)
+}
+
+fn files(size: &str, mesh: &[u8], calls: u32) {
+    let (mut e, mut p) = both(mesh);
     let mut out = [vec![0u8; mesh.len()], vec![0u8; mesh.len()]];
     let [oe, op] = &mut out;
-    assert_eq!(engine::read_mesh(mesh, &mut e), (mesh.len(), 0));
-    assert_eq!(plain::read_mesh(mesh, &mut p), (mesh.len(), 0));
-    assert!(e.n == p.n && e.m == p.m);
-    let m = |p: &Pattern| [p.m[0].as_ptr(), p.m[1].as_ptr(), p.m[2].as_ptr()];
-    black_box(m(&e));
-    row(
-        &format!("check, {size}"),
-        time(calls, || { black_box(engine::check(black_box(&e))); }, || { let p = black_box(&p); black_box(plain::check(&p.n, [&p.m[0], &p.m[1], &p.m[2]])); }),
-    );
+    row(&format!("check, {size}"), time(calls, || { let _ = black_box(black_box(&e).check()); }, || { black_box(plain::pattern::check(black_box(&p))); }));
     row(
         &format!("check, {size}, against three nested loops"),
-        time(calls, || { black_box(engine::check(black_box(&e))); }, || { let p = black_box(&p); black_box(plain::check_nested(&p.n, [&p.m[0], &p.m[1], &p.m[2]])); }),
+        time(calls, || { let _ = black_box(black_box(&e).check()); }, || { black_box(plain::pattern::check_nested(black_box(&p))); }),
     );
-    row(
-        &format!("write, {size}"),
-        time(calls, || { black_box(engine::write_mesh(black_box(&e), oe)); }, || { let p = black_box(&p); black_box(plain::write_mesh(&p.n, [&p.m[0], &p.m[1], &p.m[2]], op)); }),
-    );
+    row(&format!("write, {size}"), time(calls, || { let _ = black_box(black_box(&e).write(oe)); }, || { black_box(plain::mesh::write_mesh(black_box(&p), op)); }));
     assert!(out[0] == mesh && out[1] == mesh);
     row(
-        &format!("read, {size}"),
-        time(calls, || { black_box(engine::read_mesh(black_box(mesh), &mut e)); }, || { black_box(plain::read_mesh(black_box(mesh), &mut p)); }),
+        &format!("read, {size}, over the same pattern"),
+        time(calls, || { let _ = black_box(e.read(black_box(mesh))); }, || { black_box(plain::mesh::read_mesh(black_box(mesh), &mut p)); }),
+    );
+    row(
+        &format!("read, {size}, into cleared matrices"),
+        time(
+            calls,
+            || { e.matrices = [[0; mbyasoka::SIZE]; 3]; let _ = black_box(black_box(&mut e).read(black_box(mesh))); },
+            || { p.m = [[0; mbyasoka::SIZE]; 3]; black_box(plain::mesh::read_mesh(black_box(mesh), black_box(&mut p))); },
+        ),
     );
 }
 
+/// One operator, the Euler number and the chains of a full pattern.
+fn small_calls(mesh: &[u8]) {
+    let (mut e, mut p) = both(mesh);
+    let chain = [1_000_000; 96];
+    let mut out = [[0; 96], [1; 96]];
+    let [oe, op] = &mut out;
+    let flip = [0x52, 40];
+    row("Euler number", time(20, || { let _ = black_box(black_box(&e).euler()); }, || { black_box(plain::script::euler(black_box(&p))); }));
+    row("one operator", time(20, || { let _ = black_box(e.apply(&flip)); }, || { black_box(plain::script::apply_operator(&mut p, &flip)); }));
+    assert!(same(&e, &p));
+    row("boundary", time(20, || { let _ = black_box(e.boundary(2, black_box(&chain), oe)); }, || { black_box(plain::chains::boundary(&p, 2, black_box(&chain), op)); }));
+    assert_eq!(oe, op);
+    row("carrying", time(20, || { let _ = black_box(e.carry(&flip, 2, black_box(&chain), oe)); }, || { black_box(plain::chains::carry(&p, &flip, 2, black_box(&chain), op)); }));
+    assert_eq!(oe, op);
+}
+
+/// Every run begins with a copy of the pattern, which both make.
+fn full_script(t: &Timed) {
+    let (e0, p0) = both(&t.mesh);
+    let (mut e, mut p) = (e0.clone(), p0.clone());
+    assert_eq!(e.run(&t.script), mbyasoka::Run { ran: 1024, refusal: None }, "{}", t.name);
+    assert_eq!(plain::script::run_script(&mut p, &t.script, false), (1024, 0));
+    assert!(same(&e, &p));
+    let run_plain = |p: &mut Plain, again: bool| {
+        p.clone_from(&p0);
+        black_box(plain::script::run_script(p, black_box(&t.script), again));
+    };
+    let run_engine = |e: &mut Engine| {
+        e.clone_from(&e0);
+        black_box(e.run(black_box(&t.script)));
+    };
+    row(t.name, time(2, || run_engine(&mut e), || run_plain(&mut p, false)));
+    row(
+        &format!("{}, with reading the pattern", t.name),
+        time(
+            2,
+            || { let _ = e.read(black_box(&t.mesh)); black_box(e.run(black_box(&t.script))); },
+            || { plain::mesh::read_mesh(black_box(&t.mesh), &mut p); black_box(plain::script::run_script(&mut p, black_box(&t.script), false)); },
+        ),
+    );
+    row(&format!("{}, against the pattern tested at every operator", t.name), time(1, || run_engine(&mut e), || run_plain(&mut p, true)));
+}
+
+fn head(title: &str) {
+    println!("\n| {title} | engine, ns | plain Rust, ns | ratio |\n|---|---|---|---|");
+}
+
 fn main() {
-    println!("| call | engine, ns | plain Rust, ns | ratio |\n|---|---|---|---|");
-    compare("96 of everything", &full_mesh(), 20);
-    compare("a triangle", &small_mesh(), 400);
+    head("meshes and the check");
+    files("96 of everything", &inputs::full_mesh(), 20);
+    files("a triangle", &inputs::small_mesh(), 400);
+    head("a script of 1,024 operators");
+    inputs::scripts().iter().for_each(full_script);
+    head("other calls, 96 of everything");
+    small_calls(&inputs::full_mesh());
 }

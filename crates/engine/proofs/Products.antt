@@ -1,18 +1,14 @@
--- A matrix times a chain in numbers of four bytes: the tests of a coefficient, one term, one column, all columns.
+-- A matrix times a chain in numbers of four bytes: one term, one column, all columns.
 use mathlib.Core.Path.{_≡_, refl, sym, _∙_}
-use mathlib.Core.Bool.{true, false}
 use mathlib.Core.List.{List}
 use Prim.Native.Nat.{ℕ, _+_, _*_, _<_, _≤_}
 use native.Mathlib.Omega.{arith}
-use lib.Dec.{leb, leb·suc-suc}
-use lib.IntN.{ℤ, pos, negsuc, natAbs, _+ℤ_, _*ℤ_}
+use lib.IntN.{ℤ, pos, natAbs, _+ℤ_, _*ℤ_}
 use lib.ListN.{length, getD, set}
-use lib.Signed.{leZ}
 use mir.Syntax.{w32}
 use mir.Val.{SFits}
 use Rattle.maths.specs.Sums.{dot}
 use Rattle.maths.specs.Tables.{table, entries}
-use Rattle.maths.proofs.Cases.{no-eq}
 use Rattle.maths.proofs.Dots.{dot-zero, dot-next}
 use Rattle.maths.proofs.Tables.{length-table, getD-table, is-table, table-same, entries-in}
 use Rattle.maths.proofs.Sizes.{add-size, mul-bound, dot-size, fits-size}
@@ -20,15 +16,6 @@ use Rattle.maths.proofs.Sweep.{Filled, filled-none, filled-more}
 use Rattle.rules.specs.Chains.{boundaryLimit}
 use Rattle.grid.specs.Grid.{run, plus}
 use Rattle.engine.specs.Boundaries.{product, Term, Terms, Factors}
-
--- the two tests of `-1_000_000 <= z && z <= 1_000_000`
-pub limit-high : (z : ℤ) → leZ (negsuc 999_999) z ≡ true → leZ z (pos 1_000_000) ≡ leb (natAbs z) boundaryLimit
-limit-high (pos n) e = refl
-limit-high (negsuc n) e = sym e ∙ sym (leb·suc-suc n 999_999)
-
-pub limit-low : (z : ℤ) → leZ (negsuc 999_999) z ≡ false → leZ (negsuc 999_999) z ≡ leb (natAbs z) boundaryLimit
-limit-low (pos n) e = no-eq (sym e)
-limit-low (negsuc n) e = sym (leb·suc-suc n 999_999)
 
 -- a term and the sum with it fit
 module _ {x e v : ℤ} (t : Term x e v) where

@@ -16,6 +16,7 @@ use Rattle.rules.specs.Operators.{step}
 use Rattle.rules.specs.Form.{operatorAt, facesOf, faultNumber}
 use Rattle.rules.specs.Script.{ended, runOne, runFrom}
 use Rattle.rules.specs.Calls.{lent, applied}
+use Rattle.rules.proofs.Numbers.{fault-numbered}
 use Rattle.operators.specs.Held.{Held}
 use Rattle.operators.proofs.Kept.{left, applied-held}
 use Rattle.operators.proofs.Answered.{answer-accepted, answer-refused}
@@ -23,18 +24,13 @@ use Rattle.engine.specs.Source.{ReadFrom}
 use Rattle.engine.specs.Running.{here, Runnable, Turned, RunTo}
 use Rattle.engine.proofs.Shapes.{formed}
 
-fault-some : (f : Fault) → faultNumber f ≢ accepted
-fault-some (Fault.Ends at) = omega arith
-fault-some (Fault.Wrong at) = omega arith
-fault-some (Fault.Left at) = omega arith
-
 -- the operator at `at`
 module _ (s : List ℕ) (at : ℕ) (p : Pattern) (H : Held p) where
   pub turn-faulty : {f : Fault} {next refusal : ℕ} → operatorAt s at ≡ OperatorForm.Bad f → refusal ≡ faultNumber f → Turned s at p next refusal p
   unfolding runOne
   turn-faulty {f} b q = record {
     held = H;
-    goes = λ e. absurd (fault-some f (sym q ∙ e));
+    goes = λ e. absurd (fault-numbered f (sym q ∙ e));
     ends = λ n ran go. rw (b, q);
   }
 

@@ -1,7 +1,7 @@
 -- What a call with a script answers, case by case: refused by a length or the pattern's test, by the script's form or base, or as its operators run.
 use mathlib.Core.Path.{_≡_, refl, sym, ap, _∙_}
 use mathlib.Core.Logic.{_≢_}
-use mathlib.Core.Bool.{Bool, true, false, cond, _&&_}
+use mathlib.Core.Bool.{Bool, true, false, _&&_}
 use mathlib.Core.List.{List}
 use Prim.Native.Nat.{ℕ, zero, suc, _+_, _<_, _≤_}
 use native.Mathlib.Omega.{arith}
@@ -14,10 +14,9 @@ use Rattle.maths.proofs.Cases.{bool-or}
 use Rattle.rules.specs.declared.answers.ScriptRun.{ScriptRun}
 use Rattle.rules.specs.declared.form.Fault.{Fault}
 use Rattle.rules.specs.declared.form.Field.{Field}
-use Rattle.rules.specs.Refusals.{accepted, wrongLength, notGood, stale}
+use Rattle.rules.specs.Refusals.{accepted, wrongLength, stale}
 use Rattle.rules.specs.Counts.{countOf}
 use Rattle.rules.specs.Complex.{Pattern, complex, countsOf, stored}
-use Rattle.rules.specs.Good.{isGood}
 use Rattle.rules.specs.Form.{operatorAt, byteAt, wordAt, countsAt, operatorsAt, scriptForm, faultNumber}
 use Rattle.rules.specs.Script.{Ended, ended, runFrom, sameBase, runScript}
 use Rattle.rules.specs.Calls.{Lent, lent, sized, runCall}
@@ -25,7 +24,7 @@ use Rattle.rules.proofs.Fields.{bad-field, after-got, after-operator, word-says
 use Rattle.rules.proofs.Stored.{Sized, stored-complex}
 use Rattle.good.specs.Tested.{tested}
 use Rattle.engine.specs.Running.{here, RunTo}
-use Rattle.engine.proofs.Answers.{sized-good, held}
+use Rattle.engine.proofs.FirstTests.{sized-good, held, pattern-refused}
 
 module _ (s : List ℕ) where
   -- the number of a list of operators is the one it was read for
@@ -77,14 +76,8 @@ module _ (p : Pattern) (s : List ℕ) where
   module _ (short : length s ≤ 24576) where
     -- 1 or 2, by the pattern
     pub run-refused : {r : ℕ} → r ≡ tested p → r ≢ accepted → idle r ≡ runCall p s
-    unfolding tested runCall
-    run-refused {r} e n = rw (le-leb (length s) 24576 short, and-true (sized p)) (go (sized p) (isGood (complex p)) _ e)
-      where
-        go : (long good : Bool) (a : Lent ScriptRun) → r ≡ cond long (cond good accepted notGood) wrongLength →
-            idle r ≡ cond long (cond good a (idle notGood)) (idle wrongLength)
-        go true true a e = absurd (n e)
-        go true false a e = ap idle e
-        go false good a e = ap idle e
+    unfolding runCall
+    run-refused e n = rw (le-leb (length s) 24576 short, and-true (sized p)) (pattern-refused p idle _ e n)
 
     module _ (four : length (p .counts .n) ≡ 4) (e : tested p ≡ accepted) where
       -- what the script answers on a good pattern

@@ -2,3 +2,4 @@ pub mod Source
 pub mod Running
 pub mod Numbers
 pub mod Boundaries
+pub mod Carrying

@@ -1,56 +1,19 @@
 // The boundary of a chain: the columns of a matrix, each times its coefficient, are added.
 ghost use mathlib.Core.Path.{_≡_};
-ghost use mathlib.Core.Bool.{cond};
-ghost use lib.Dec.{leb};
-ghost use lib.IntN.{pos, natAbs, _+ℤ_, _*ℤ_};
+ghost use lib.IntN.{pos, _+ℤ_, _*ℤ_};
 ghost use lib.ListN.{length};
-ghost use Rattle.maths.specs.Tests.{isZero};
 ghost use Rattle.maths.specs.Tables.{table};
 ghost use Rattle.grid.specs.Grid.{run, plus};
 ghost use Rattle.rules.specs.Complex.{pattern};
-ghost use Rattle.rules.specs.Chains.{boundaryLimit, isChain};
-ghost use Rattle.rules.specs.Calls.{coefficients, boundaryCall};
+ghost use Rattle.rules.specs.Calls.{boundaryCall};
 ghost use Rattle.engine.specs.Boundaries.{product, matrixOf, Term, Terms, Factors};
+use crate::chains::is_chain;
 use good::refusal_of_pattern;
 use rules::counts::Counts;
 use rules::refusals::ACCEPTED;
 use rules::refusals::WRONG_CHAIN;
 use rules::refusals::WRONG_FORM;
 use rules::refusals::WRONG_LENGTH;
-
-// Whether z is 0.
-fn is_zero32(z: i32) -> bool
-    ensures { λ r. ⌜ r ≡ isZero z ⌝ }
-{
-    z == 0
-}
-
-// Whether z is within the limit.
-fn is_within(z: i32) -> bool
-    ensures { λ r. ⌜ r ≡ leb (natAbs z) boundaryLimit ⌝ }
-{
-    -1_000_000 <= z && z <= 1_000_000
-}
-
-// Whether z can be a coefficient, of a cell or past the count.
-fn is_coefficient(cell: bool, z: i32) -> bool
-    ensures { λ r. ⌜ r ≡ cond cell (leb (natAbs z) boundaryLimit) (isZero z) ⌝ }
-{
-    if cell { is_within(z) } else { is_zero32(z) }
-}
-
-// Whether every coefficient of a chain of n cells is within the limit, and 0 past the count.
-fn is_chain(n: u8, chain: &[i32]) -> bool
-    requires { ⌜ length (now chain) ≡ 96 ⌝ }
-    ensures { λ r. ⌜ r ≡ isChain boundaryLimit n (coefficients (now (chain .entry))) ⌝ }
-{
-    for i in 0..96usize {
-        if !is_coefficient(i < n as usize, chain[i]) {
-            return false;
-        }
-    }
-    true
-}
 
 // All 96 are set to 0.
 fn clear32(out: &mut [i32])
@@ -129,7 +92,7 @@ pub fn boundary(
         return WRONG_FORM;
     }
     let n = c.n;
-    if !is_chain(n[d as usize], chain) {
+    if !is_chain(1_000_000, n[d as usize], chain) {
         return WRONG_CHAIN;
     }
     multiply_at(d, m1, m2, m3, chain, out);

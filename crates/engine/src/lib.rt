@@ -20,6 +20,8 @@ use rules::refusals::WRONG_LENGTH;
 
 pub mod apply;
 pub mod boundary;
+pub mod carry;
+mod chains;
 pub mod euler;
 mod script;
 
@@ -58,9 +60,9 @@ pub fn run_script(c: Counts, m1: &mut [i8], m2: &mut [i8], m3: &mut [i8], s: &[u
     if 24576 < s.len() {
         return idle(c, WRONG_LENGTH);
     }
-    let refusal = refusal_of_pattern(c, m1, m2, m3);
-    if refusal != ACCEPTED {
-        return idle(c, refusal);
+    let tested = refusal_of_pattern(c, m1, m2, m3);
+    if tested != ACCEPTED {
+        return idle(c, tested);
     }
     match form_of_script(s) {
         Field::Bad(f) => idle(c, refusal_of(f)),

@@ -1,6 +1,6 @@
 -- The parts of the test of a good pattern: how they join, and what the next part needs of the last.
 use mathlib.Core.Path.{_≡_, _∙_}
-use mathlib.Core.Bool.{Bool, true, false, _&&_}
+use mathlib.Core.Bool.{Bool, true, false, _&&_, and-assoc}
 use mathlib.Core.List.{List}
 use Prim.Native.Nat.{ℕ, _<_, _≤_}
 use native.Mathlib.Omega.{arith}
@@ -19,7 +19,6 @@ use Rattle.rules.specs.Calls.{sized}
 use Rattle.good.specs.Tested.{tested}
 use Rattle.good.specs.Columns.{Matrix}
 use Rattle.good.specs.Parts.{cells, fewCells, allInPlace, formed, sound, Stored}
-use Rattle.good.proofs.Tests.{and-assoc}
 
 pub three : {a b c : Bool} → a && b && c ≡ true → (a ≡ true) × (b ≡ true) × (c ≡ true)
 three {a} {b} {c} t = let ab = and-left (a && b) c t in (and-left a b ab, and-right a b ab, and-right (a && b) c t)

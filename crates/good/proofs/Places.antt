@@ -1,5 +1,5 @@
 -- The entries of a stored matrix by their places: what the tests of entries say of runs of places.
-use mathlib.Core.Path.{_≡_, sym, ap, ap₂, _∙_}
+use mathlib.Core.Path.{_≡_, refl, sym, ap, ap₂, _∙_}
 use mathlib.Core.Bool.{Bool, true, false, cond, _&&_}
 use mathlib.Core.List.{List}
 use Prim.Native.Nat.{ℕ, _+_, _*_, _-_, _<_, _≤_}
@@ -12,11 +12,11 @@ use Rattle.maths.specs.Tests.{eqZ, isZero, isUnit, all}
 use Rattle.maths.specs.Tables.{entries}
 use Rattle.maths.proofs.Cases.{lt-or, bool-or, cond-true, cond-false}
 use Rattle.maths.proofs.Tests.{zero-true, unit-true, all-at, all-same, count-same}
+use Rattle.maths.proofs.Dots.{dot-same}
 use Rattle.maths.proofs.Tables.{entries-in, entries-out, in-or-out}
-use Rattle.rules.specs.Good.{times, oneEach, allZero, inPlace}
-use Rattle.grid.specs.Grid.{run}
-use Rattle.good.specs.Columns.{layer, columnInPlace, Matrix}
-use Rattle.good.specs.Parts.{Placed}
+use Rattle.rules.specs.Good.{times, oneEach, allZero, inPlace, closes}
+use Rattle.grid.specs.Grid.{Units, Summands, columnSum, run}
+use Rattle.good.specs.Columns.{layer, columnInPlace, Matrix, Neighbours}
 use Rattle.good.proofs.Tests.{all-split, all-columns}
 
 -- column j, row by row
@@ -31,6 +31,23 @@ module _ (m : List ℤ) (j : ℕ) (h : j < 96) where
   pub zero-column : all 96 (λ i. isZero (run m (96 * j) i)) ≡ allZero (λ i. entries m i j)
   unfolding allZero
   zero-column = all-same 96 (λ i l. ap isZero (sym (entries-in m i j l h)))
+
+-- column j of `high`, as a chain of the cells of `low`
+module _ {low high : List ℤ} {rows between : ℕ} (p : Neighbours low high rows between) (j : ℕ) (h : j < 96) where
+  pub column-summands : Summands low between high (96 * j)
+  column-summands = record {
+    size = p .lower .columns .size;
+    few = p .lower .columns .few;
+    inside = omega (arith, p .lower .columns .few, p .size);
+    units = p .lowerUnits;
+    small = λ k l. rw (← entries-in high k j (omega (arith, p .lower .columns .few)) h) (p .upperUnits .unit k j);
+  }
+
+  pub column-closes : {t : Bool} → t ≡ all rows (λ r. isZero (columnSum low between (run high (96 * j)) r))
+      → closes rows (layer between low) (λ i. entries high i j) ≡ t
+  unfolding closes
+  column-closes e = all-same rows (λ r _. ap isZero
+      (dot-same between (λ _ _. refl) (λ i l. entries-in high i j (omega (arith, p .lower .columns .few)) h))) ∙ sym e
 
 -- what `inPlace` asks of one entry
 abbrev fine : List ℤ → ℕ → ℕ → ℕ → ℕ → Bool
@@ -74,17 +91,14 @@ module _ {m : List ℤ} {rows n : ℕ} (s : Matrix m rows n) where
   in-place-rest e = in-place-split ∙ rw e
 
 -- what the test tells of every entry
-pub in-place-at : (m : List ℤ) (rows n : ℕ) → inPlace rows (layer n m) ≡ true → Placed m rows
+pub in-place-units : (m : List ℤ) (rows n : ℕ) → inPlace rows (layer n m) ≡ true → Units m
 unfolding inPlace
-in-place-at m rows n e = record {
+in-place-units m rows n e = record {
   unit = λ i j. in-or-out i j
       (λ hi hj. bool-or (ltb i rows && ltb j n)
       (λ t. unit-true (entries m i j) (sym (cond-true _ _ t) ∙ at i j hi hj))
       (λ t. rw (zero-true (sym (cond-false _ _ t) ∙ at i j hi hj)) (omega arith)))
       (λ o. rw (entries-out m i j o) (omega arith));
-  past = λ i j h. in-or-out i j
-      (λ hi hj. zero-true (rw (le-ltb i rows h) at (at i j hi hj)))
-      (λ o. entries-out m i j o);
 }
   where
     at : (i j : ℕ) → i < 96 → j < 96 → fine m rows n i j ≡ true

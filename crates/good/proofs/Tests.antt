@@ -1,18 +1,10 @@
 -- A test of every number below a bound in two parts, and column by column.
 use mathlib.Core.Path.{_≡_, refl, sym, ap, _∙_}
-use mathlib.Core.Bool.{Bool, true, false, _&&_}
+use mathlib.Core.Bool.{Bool, _&&_, and-true, and-assoc}
 use Prim.Native.Nat.{ℕ, zero, suc, _+_, _*_, _-_, _≤_}
 use native.Mathlib.Nat.{add-zero, add-suc}
 use native.Mathlib.Omega.{arith}
 use Rattle.maths.specs.Tests.{all}
-
-pub and-true : (a : Bool) → a && true ≡ a
-and-true true = refl
-and-true false = refl
-
-pub and-assoc : (a b c : Bool) → (a && b) && c ≡ a && (b && c)
-and-assoc true b c = refl
-and-assoc false b c = refl
 
 -- the first n, and k more
 all-+ : (n k : ℕ) (p : ℕ → Bool) → all (n + k) p ≡ all n p && all k (λ i. p (n + i))

@@ -2,13 +2,13 @@
 use mathlib.Core.Path.{_≡_}
 use mathlib.Core.Bool.{Bool, _&&_}
 use mathlib.Core.List.{List}
-use Prim.Native.Nat.{ℕ, _+_, _-_, _<_, _≤_}
-use lib.IntN.{ℤ, pos, natAbs, _+ℤ_}
-use lib.ListN.{length, getD}
+use Prim.Native.Nat.{ℕ, _+_, _-_, _≤_}
+use lib.IntN.{ℤ}
+use lib.ListN.{length}
 use Rattle.maths.specs.Tests.{isZero, isUnit, all}
-use Rattle.maths.specs.Tables.{table, entries}
-use Rattle.grid.specs.Grid.{run}
-use Rattle.rules.specs.Complex.{Layer, Chain}
+use Rattle.maths.specs.Tables.{entries}
+use Rattle.grid.specs.Grid.{Units, run}
+use Rattle.rules.specs.Complex.{Layer}
 
 -- the cells whose matrix is stored in m
 abbrev pub layer : ℕ → List ℤ → Layer
@@ -33,9 +33,9 @@ pub record Column (m : List ℤ) (from rows : ℕ) : Type 0 where
   pub inside : from + 96 ≤ length m
   pub short : rows ≤ 96
 
--- two neighbouring matrices of -1, 0 and 1, and how many columns of the lower one are in use
-pub record Neighbours (low high : List ℤ) (between : ℕ) : Type 0 where
-  pub lower : Columns low between
+-- two neighbouring matrices of -1, 0 and 1, the lower one with its rows and columns in use
+pub record Neighbours (low high : List ℤ) (rows between : ℕ) : Type 0 where
+  pub lower : Matrix low rows between
   pub size : length high ≡ 9216
-  pub lowerUnit : (i j : ℕ) → natAbs (entries low i j) ≤ 1
-  pub upperUnit : (i j : ℕ) → natAbs (entries high i j) ≤ 1
+  pub lowerUnits : Units low
+  pub upperUnits : Units high

@@ -1,3 +1,4 @@
-// The printed result, line by line.
+// The printed result: line by line, and in pieces.
 pub mod lines;
 pub mod numbers;
+pub mod pieces;

@@ -49,10 +49,6 @@ pub dot-size : (n a b : ℕ) (x y : ℕ → ℤ) → ((i : ℕ) → i < n → na
 unfolding dot
 dot-size n a b x y h k = sum-size n (a * b) (λ i. x i *ℤ y i) (λ i l. mul-bound (x i) (y i) (h i l) (k i l))
 
-pub abs-size : (z : ℤ) → natAbs z ≤ mag z + 1
-abs-size (pos n) = omega arith
-abs-size (negsuc n) = omega arith
-
 mag-size : (z : ℤ) → mag z ≤ natAbs z
 mag-size (pos n) = omega arith
 mag-size (negsuc n) = omega arith

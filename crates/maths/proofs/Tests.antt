@@ -156,11 +156,6 @@ one-found (suc n) p e = bool-or (p n)
     let r = one-found n p (omega (arith, rw q at e)) in
     (r .0, omega (arith, r .1), r .2, λ i l k. eq-or i n (λ f. rw f q) (λ f. r .3 i (omega arith) k)))
 
-pub last-same : (n : ℕ) {p q : ℕ → Bool} → ((i : ℕ) → i < n → p i ≡ q i) → last n p ≡ last n q
-unfolding last
-last-same zero h = refl
-last-same (suc n) h = ap₂ (λ t k. cond t n k) (h n (omega arith)) (last-same n (λ i l. h i (omega arith)))
-
 pub last-is : (n t : ℕ) {p : ℕ → Bool} → t < n → p t ≡ true → ((i : ℕ) → t < i → i < n → p i ≡ false) → last n p ≡ t
 unfolding last
 last-is zero t l e h = absurd (omega arith)

@@ -1,10 +1,11 @@
 // The engine for C and Rust: numbers, arrays of four counts, and slices, each a pointer and then a length.
 ghost use mathlib.Core.Path.{_≡_};
 ghost use Rattle.rules.specs.Complex.{pattern, countsOf, empty};
-ghost use Rattle.rules.specs.Calls.{lent, readCall, writeCall, eulerCall, applyCall, runCall, boundaryCall};
+ghost use Rattle.rules.specs.Calls.{lent, readCall, writeCall, eulerCall, applyCall, runCall, boundaryCall, carryCall};
 ghost use Rattle.good.specs.Tested.{tested};
 use engine::apply_operator;
 use engine::boundary::boundary;
+use engine::carry::carry;
 use engine::euler::euler;
 use engine::run_script;
 use good::refusal_of_pattern;
@@ -132,4 +133,22 @@ pub extern "C" fn mbyasoka_boundary(
 {
     let c = Counts { n: *counts };
     boundary(c, m1, m2, m3, d, chain, out)
+}
+
+// The chain carried through one operator, of which s are the bytes; the pattern stays as it is.
+#[no_mangle]
+pub extern "C" fn mbyasoka_carry(
+    counts: &[u8; 4],
+    m1: &[i8],
+    m2: &[i8],
+    m3: &[i8],
+    s: &[u8],
+    d: u8,
+    chain: &[i32],
+    out: &mut [i32],
+) -> u8
+    ensures { λ r. ⌜ record { refusal = r; out = now (out .exit) } ≡ carryCall (pattern (record { n = now (counts .entry) }) (now (m1 .entry)) (now (m2 .entry)) (now (m3 .entry))) (now (s .entry)) d (now (chain .entry)) (now (out .entry)) ⌝ }
+{
+    let c = Counts { n: *counts };
+    carry(c, m1, m2, m3, s, d, chain, out)
 }

@@ -1,15 +1,11 @@
 -- What is stored by the tests of a column.
 use mathlib.Core.Path.{_≡_, refl}
-use mathlib.Core.Bool.{Bool, true, false, not, _&&_}
+use mathlib.Core.Bool.{Bool, true, false, not, _&&_, and-true}
 use mathlib.Core.List.{List}
 use Prim.Native.Nat.{ℕ}
 use lib.IntN.{ℤ}
 use Rattle.grid.specs.Grid.{over, withColumn}
 use Rattle.operators.specs.Append.{tried, setIf}
-
-pub and-true : (t : Bool) → t && true ≡ t
-and-true true = refl
-and-true false = refl
 
 module _ (at : ℕ) (column m : List ℤ) where
   pub set-no : {zero : Bool} → zero ≡ true → tried false m ≡ setIf (not zero) at column m

@@ -1,13 +1,13 @@
 -- Faces are added up in a column, one a turn: after l turns it is the sum of the first l.
-use mathlib.Core.Path.{_≡_, refl, sym, ap, _∙_, fun-ext}
+use mathlib.Core.Path.{_≡_, sym, ap, _∙_, fun-ext}
 use mathlib.Core.Bool.{true, false}
 use mathlib.Core.List.{List}
-use Prim.Native.Nat.{ℕ, zero, suc, _+_, _*_, _<_, _≤_}
+use Prim.Native.Nat.{ℕ, _+_, _*_, _<_, _≤_}
 use native.Mathlib.Omega.{arith}
 use borrow.Author.Tests.{lt-ltb, le-ltb}
 use lib.Dec.{ltb}
 use lib.IntN.{ℤ, pos, natAbs, _+ℤ_, _*ℤ_, +ℤ-idr, *ℤ-zero}
-use lib.ListN.{length, getD, set, replicate, length-set}
+use lib.ListN.{length, getD, set, length-set}
 use lib.Seq.{getD-set-same, getD-set-other}
 use mir.Syntax.{w8}
 use mir.Val.{toZ, ofZ}
@@ -19,9 +19,10 @@ use Rattle.maths.proofs.Integers.{*ℤ-1}
 use Rattle.maths.proofs.Tests.{all-none, all-more, all-not}
 use Rattle.maths.proofs.Sums.{sum-zero, sum-next, δ-same, δ-no}
 use Rattle.maths.proofs.Sizes.{mul-bound, sum-size, fits-size}
+use Rattle.grid.specs.Grid.{Blank}
 use Rattle.rules.specs.Complex.{Chain}
 use Rattle.rules.specs.Operators.{Faces, chainOf, allBelow}
-use Rattle.operators.specs.Column.{Blank, Drawn}
+use Rattle.operators.specs.Column.{Drawn}
 
 -- the sum of the first l faces
 abbrev chainTo : Faces → ℕ → Chain
@@ -36,14 +37,6 @@ pub record Summed (F : Faces) (n l : ℕ) (column : List ℤ) : Type 0 where
 
 δ-size : (t i : ℕ) → natAbs (δ t i) ≤ 1
 δ-size t i = eq-or i t (λ e. rw (e, δ-same) (omega arith)) (λ e. rw (δ-no t i e) (omega arith))
-
-zeros : (n i : ℕ) → getD (replicate n (pos 0)) i (pos 0) ≡ pos 0
-zeros zero i = refl
-zeros (suc n) zero = refl
-zeros (suc n) (suc i) = zeros n i
-
-pub zeros-blank : Blank (replicate 96 (pos 0))
-zeros-blank = record { size = refl; zero = zeros 96 }
 
 -- a unit that is stored is read back
 pub unit-back : {x z : ℤ} → x ≡ z → natAbs z ≤ 1 → toZ w8 (ofZ w8 x) ≡ z

@@ -4,6 +4,7 @@ use mathlib.Core.Logic.{_≢_}
 use mathlib.Core.Bool.{Bool, true, false, not, cond}
 use mathlib.Core.List.{List}
 use Prim.Native.Nat.{ℕ, pred, _<_, _≤_}
+use native.Mathlib.Nat.{zero-add}
 use native.Mathlib.Omega.{arith}
 use borrow.Author.Tests.{not-true, not-false, eqb-false}
 use lib.Dec.{eqb}
@@ -13,16 +14,17 @@ use Rattle.maths.specs.Tables.{entries, tab}
 use Rattle.maths.proofs.Cases.{cond-same, by-bool}
 use Rattle.maths.proofs.Dots.{dot-same}
 use Rattle.maths.proofs.Tables.{tab-same, length-table}
-use Rattle.grid.specs.Grid.{over, withColumn, copiedRow}
+use Rattle.grid.specs.Grid.{Summands, over, withColumn, copiedRow}
+use Rattle.grid.proofs.Summing.{blank}
 use Rattle.rules.specs.Refusals.{accepted, wrongPart, wrongDivider}
 use Rattle.rules.specs.Complex.{Chain, bare}
 use Rattle.rules.specs.Edits.{put, boundary, part, divider, halves, repeated}
 use Rattle.rules.specs.Operators.{divides}
 use Rattle.rules.specs.Calls.{coefficients}
-use Rattle.operators.specs.Boundary.{layer}
-use Rattle.operators.specs.Part.{Takeable, Taken, Bounded, Under, column, edge}
+use Rattle.operators.specs.Boundary.{layer, edge, Bounded, Under}
+use Rattle.operators.specs.Part.{Takeable, Taken, column}
 use Rattle.operators.specs.Split.{Halvable, Halved, Dividable, Repeatable, Splittable, around, divided}
-use Rattle.operators.proofs.Lists.{holds, blank}
+use Rattle.operators.proofs.Lists.{holds}
 
 -- what each store needs
 module _ {dim cell t new : ℕ} {low mid high : List ℤ} (S : Splittable dim cell t new low mid high) where
@@ -43,11 +45,16 @@ module _ {dim cell t new : ℕ} {low mid high : List ℤ} (S : Splittable dim ce
         (by-bool (p i) (λ t. natAbs (cond t (entries mid i cell) (pos 0)) ≤ 1) (λ _. S .here .units .unit i cell) (λ _. omega arith))
 
     pub part-under : Under dim low taken
-    part-under = record {
-      least = S .least;
-      most = S .most;
-      summable = λ d. record { size = S .below d .size; long = taken-long; units = S .below d .units; small = taken-small };
-    }
+    part-under = record { least = S .least; most = S .most; summands = summands }
+      where
+        summands : 2 ≤ dim → Summands low 96 taken 0
+        summands d = record {
+          size = S .below d .size;
+          few = omega arith;
+          inside = omega (arith, taken-long);
+          units = S .below d .units;
+          small = λ j h. rw zero-add (taken-small j h);
+        }
 
     pub two-halves : Halvable cell t new taken mid
     two-halves = record { size = S .here .size; long = taken-long; cell-in = S .cell-in; room = S .room; room-below = S .room-below; free = S .free }

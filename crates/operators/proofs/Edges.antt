@@ -1,59 +1,25 @@
--- The boundary of the chosen part: how it is added up, and when it is that of a dividing cell.
+-- The boundary of the chosen part: when it is that of a dividing cell.
 use mathlib.Core.Path.{_≡_, sym, ap, ap₂, _∙_}
 use mathlib.Core.Logic.{_≢_}
 use mathlib.Core.Bool.{Bool, true, false, not, _&&_, and-false}
 use mathlib.Core.List.{List}
-use Prim.Native.Nat.{ℕ, _+_, _*_, _<_, _≤_}
+use Prim.Native.Nat.{ℕ}
 use native.Mathlib.Omega.{arith}
 use borrow.Author.Tests.{ne-eqb}
-use lib.IntN.{ℤ, pos, negsuc, _+ℤ_, _*ℤ_}
+use lib.IntN.{ℤ, pos, negsuc}
 use lib.Dec.{eqb}
-use lib.ListN.{length, getD}
 use Rattle.maths.specs.Tests.{eqZ, isZero, isUnit, all}
-use Rattle.maths.specs.Sums.{dot}
-use Rattle.maths.specs.Tables.{entries, table}
+use Rattle.maths.specs.Tables.{table}
 use Rattle.maths.proofs.Cases.{by-bool}
-use Rattle.maths.proofs.Dots.{dot-zero, dot-next}
-use Rattle.maths.proofs.Sizes.{dot-size}
-use Rattle.maths.proofs.Tables.{entries-in, is-table, length-table, getD-table}
 use Rattle.maths.proofs.Tests.{eqZ-true, one-found, all-same, count-same}
 use Rattle.rules.specs.Complex.{Chain}
 use Rattle.rules.specs.Good.{times, oneEach, allZero}
 use Rattle.rules.specs.Operators.{proper, divides}
 use Rattle.rules.specs.Calls.{coefficients}
 use Rattle.rules.proofs.Judged.{one-each-true, has-face}
-use Rattle.grid.specs.Grid.{run, plus, Addable}
-use Rattle.operators.specs.Part.{Summable, Blank, Bounded, edge, edgeOf}
+use Rattle.grid.specs.Grid.{run}
+use Rattle.operators.specs.Boundary.{Bounded, edge, edgeOf}
 use Rattle.operators.proofs.Lists.{holds, from-start}
-
--- the columns of the first j cells are added up
-pub record Summed (low taken : List ℤ) (j : ℕ) (sums : List ℤ) : Type 0 where
-  pub upto : j ≤ 96
-  pub size : length sums ≡ 96
-  pub is : (i : ℕ) → i < 96 → getD sums i (pos 0) ≡ dot j (λ l. entries low i l) (coefficients taken)
-
-pub sum-begin : {low taken sums : List ℤ} → Blank sums → Summed low taken 0 sums
-sum-begin b = record { upto = omega arith; size = b .size; is = λ i h. b .zero i ∙ sym (dot-zero _ _) }
-
-module _ {low taken : List ℤ} {j : ℕ} {sums : List ℤ} (r : Summable low taken) (s : Summed low taken j sums) where
-  pub sum-addable : j < 96 → Addable sums low (96 * j)
-  sum-addable h = record {
-    size = s .size;
-    inside = omega (arith, r .size);
-    small = λ i l. rw (s .is i l) (omega (arith, dot-size j 1 1 (entries low i) (coefficients taken) (λ k _. r .units .unit i k) (λ k i. r .small k (omega (arith, s .upto)))));
-    unit = λ i l. rw (← entries-in low i j l h) (r .units .unit i j);
-  }
-
-  pub sum-more : {new : List ℤ} {z : ℤ} → j < 96 → z ≡ coefficients taken j → new ≡ plus sums (λ i. run low (96 * j) i *ℤ z) → Summed low taken (j + 1) new
-  unfolding plus
-  sum-more {z} h e q = record {
-    upto = omega arith;
-    size = ap length q ∙ length-table 0 96 _;
-    is = λ i l. rw (q, getD-table 96 i (λ i. getD sums i (pos 0) +ℤ run low (96 * j) i *ℤ z) (pos 0) l, s .is i l, e, ← entries-in low i j l h) (sym (dot-next j _ _));
-  }
-
-  pub sum-end : 96 ≤ j → sums ≡ edgeOf low (coefficients taken)
-  sum-end h = let e : j ≡ 96 = omega (arith, s .upto) in is-table (pos 0) (s .size) (λ i l. rw e at (s .is i l))
 
 -- one +1 is a face
 one-each-face : (v : Chain) → oneEach v ≡ true → allZero v ≡ false

@@ -2,7 +2,6 @@
 pub mod Bytes
 pub mod Columns
 -- The column tested and stored, and the cell made
-pub mod Sums
 pub mod Closing
 pub mod Made
 -- What is left is good

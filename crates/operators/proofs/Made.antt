@@ -1,19 +1,19 @@
 -- A cell that is made: which counts and which matrix its column changes, and the refusals in their order.
 use mathlib.Core.Path.{_≡_, refl, sym, ap, _∙_}
-use mathlib.Core.Bool.{Bool, true, false, not, cond, _&&_}
+use mathlib.Core.Bool.{Bool, true, false, not, cond, _&&_, and-true}
 use mathlib.Core.List.{List, [], _∷_}
-use Prim.Native.Nat.{ℕ, zero, suc, pred, _<_, _≤_}
+use Prim.Native.Nat.{ℕ, zero, suc, pred, _+_, _<_, _≤_}
 use native.Mathlib.Numerals.{add-one}
 use native.Mathlib.Omega.{arith}
 use borrow.Author.Tests.{lt-ltb, le-ltb}
-use lib.IntN.{ℤ}
+use lib.IntN.{ℤ, natAbs}
 use lib.ListN.{length}
 use Rattle.maths.specs.Tables.{entries, tab}
 use Rattle.maths.proofs.Tables.{tab-entries}
 use Rattle.maths.proofs.Cases.{by-bool, bool-or, no-eq}
 use Rattle.maths.proofs.Tests.{all-of, zero-is}
 use Rattle.maths.proofs.Dots.{dot-0-l}
-use Rattle.grid.specs.Grid.{over, withColumn}
+use Rattle.grid.specs.Grid.{Summands, over, withColumn}
 use Rattle.rules.specs.declared.counts.Counts.{Counts}
 use Rattle.rules.specs.declared.answers.Applied.{Applied}
 use Rattle.rules.specs.Counts.{countOf, grownAt}
@@ -27,7 +27,6 @@ use Rattle.rules.proofs.Stored.{Sized}
 use Rattle.rules.specs.Complex.{pattern}
 use Rattle.operators.specs.Boundary.{layer}
 use Rattle.operators.specs.Append.{tried, setIf, appended, Storable, Closable, Appendable}
-use Rattle.operators.proofs.Closing.{and-true}
 
 -- the counts: one more at dimension k
 grown-are : (v : Chain) (m1 m2 m3 : List ℤ) (l : List ℕ) → length l ≡ 4 → (k : ℕ) → k ≤ 3
@@ -117,30 +116,22 @@ module _ {k : ℕ} {column : List ℤ} {p : Pattern} (A : Appendable k column p)
   pub seam-fits : k ≡ 1 → Storable column (p .m1) (count p 1)
   seam-fits e = record { size = A .size; line = record { size = A .held .sized .size1; inside = rw e at (A .room) } }
 
+  chain-of : {low : List ℤ} {n : ℕ} → length low ≡ 9216 → n ≤ 96 → ((i j : ℕ) → natAbs (entries low i j) ≤ 1) → Summands low n column 0
+  chain-of l few unit =
+      record { size = l; few = few; inside = omega (arith, A .size); units = record { unit = unit }; small = λ j h. A .unit (0 + j) }
+
   pub panel-fits : k ≡ 2 → Closable (p .m1) (count p 0) (count p 1) column (p .m2) (count p 2)
   panel-fits e = record {
-    chained = record {
-      lowSize = A .held .sized .size1;
-      size = A .size;
-      short = A .held .good .few 0;
-      few = A .held .good .few 1;
-      lowUnit = A .held .good .units 1;
-      unit = A .unit;
-    };
-    line = record { size = A .held .sized .size2; inside = rw e at (A .room) };
+    storable = record { size = A .size; line = record { size = A .held .sized .size2; inside = rw e at (A .room) } };
+    short = A .held .good .few 0;
+    summands = chain-of (A .held .sized .size1) (A .held .good .few 1) (A .held .good .units 1);
   }
 
   pub block-fits : k ≡ 3 → Closable (p .m2) (count p 1) (count p 2) column (p .m3) (count p 3)
   block-fits e = record {
-    chained = record {
-      lowSize = A .held .sized .size2;
-      size = A .size;
-      short = A .held .good .few 1;
-      few = A .held .good .few 2;
-      lowUnit = A .held .good .units 2;
-      unit = A .unit;
-    };
-    line = record { size = A .held .sized .size3; inside = rw e at (A .room) };
+    storable = record { size = A .size; line = record { size = A .held .sized .size3; inside = rw e at (A .room) } };
+    short = A .held .good .few 1;
+    summands = chain-of (A .held .sized .size2) (A .held .good .few 2) (A .held .good .units 2);
   }
 
 -- the same matrices, with another answer

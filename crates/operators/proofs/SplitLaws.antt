@@ -19,7 +19,8 @@ use Rattle.rules.proofs.Stored.{Sized}
 use Rattle.rules.specs.Complex.{pattern}
 use Rattle.operators.specs.Held.{Held}
 use Rattle.operators.specs.Split.{Fine, Splittable, Prepared, Around, around, divided, partStep, leaves}
-use Rattle.operators.specs.Part.{column, edge}
+use Rattle.operators.specs.Boundary.{edge}
+use Rattle.operators.specs.Part.{column}
 
 -- two tests, each way told
 each-way : (p : Pattern) (f : Around → Lent ℕ) (a b : Bool) (x y z : Around) (S : ℕ → Step)

@@ -5,13 +5,12 @@ use mathlib.Core.List.{List}
 use Prim.Native.Nat.{ℕ, _<_, _≤_}
 use lib.IntN.{ℤ, pos, natAbs}
 use lib.ListN.{length, getD}
-use Rattle.grid.specs.Grid.{Line, over, withColumn}
+use Rattle.grid.specs.Grid.{Line, Summands, over, withColumn}
 use Rattle.rules.specs.Complex.{Pattern, Chain, complex, stored}
 use Rattle.rules.specs.Edits.{layers, make}
 use Rattle.rules.specs.Operators.{closed}
 use Rattle.rules.specs.Calls.{Lent, lent}
 use Rattle.operators.specs.Held.{Held}
-use Rattle.operators.specs.Boundary.{Chained}
 
 -- whether a column was stored, and the matrix then
 pub record Tried : Type 0 where
@@ -34,10 +33,11 @@ pub record Storable (column m : List ℤ) (at : ℕ) : Type 0 where
   pub size : length column ≡ 96
   pub line : Line m at
 
--- the two together
+-- the same, and the matrix below, of whose n cells the column is a chain
 pub record Closable (low : List ℤ) (rows n : ℕ) (column m : List ℤ) (at : ℕ) : Type 0 where
-  pub chained : Chained low rows n column
-  pub line : Line m at
+  pub storable : Storable column m at
+  pub short : rows ≤ 96
+  pub summands : Summands low n column 0
 
 -- the column of a new cell of dimension k
 pub record Appendable (k : ℕ) (column : List ℤ) (p : Pattern) : Type 0 where

@@ -5,6 +5,7 @@ use mathlib.Core.List.{List}
 use Prim.Native.Nat.{ℕ, _<_, _≤_}
 use lib.IntN.{ℤ, pos, natAbs}
 use lib.ListN.{length, getD}
+use Rattle.grid.specs.Grid.{Blank}
 use Rattle.rules.specs.Operators.{Faces, chainOf, allBelow}
 use Rattle.rules.specs.Form.{madeOf}
 use Rattle.rules.specs.Calls.{coefficients}
@@ -26,11 +27,6 @@ pub record Addable (column : List ℤ) (i : ℕ) (z : ℤ) : Type 0 where
   pub inside : i < length column
   pub small : natAbs (getD column i (pos 0)) ≤ 96
   pub unit : natAbs z ≤ 1
-
--- a column of zeros
-pub record Blank (column : List ℤ) : Type 0 where
-  pub size : length column ≡ 96
-  pub zero : (i : ℕ) → getD column i (pos 0) ≡ pos 0
 
 -- a cell to be made, of faces that are to be below n, and a column for it
 pub record Drawable (s : List ℕ) (dim list n : ℕ) (column : List ℤ) : Type 0 where

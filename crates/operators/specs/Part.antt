@@ -1,18 +1,16 @@
--- The chosen part of a cell's boundary, and its own boundary: what the code that takes them needs and gives.
+-- The chosen part of a cell's boundary: what the code that takes it needs and gives.
 use mathlib.Core.Path.{_≡_}
 use mathlib.Core.Bool.{Bool, not, _&&_}
 use mathlib.Core.List.{List}
-use Prim.Native.Nat.{ℕ, pred, _+_, _<_, _≤_}
-use lib.IntN.{ℤ, pos, natAbs}
+use Prim.Native.Nat.{ℕ, _+_, _<_, _≤_}
+use lib.IntN.{ℤ, pos}
 use lib.ListN.{length, getD}
 use Rattle.maths.specs.Tests.{eqZ, isZero, all}
-use Rattle.maths.specs.Sums.{dot}
 use Rattle.maths.specs.Tables.{entries, table}
-use Rattle.grid.specs.Grid.{Line, Units}
+use Rattle.grid.specs.Grid.{Line, Blank}
 use Rattle.rules.specs.Complex.{Chain}
 use Rattle.rules.specs.Edits.{part}
-use Rattle.rules.specs.Operators.{Faces, isPart, divides}
-use Rattle.rules.specs.Calls.{coefficients}
+use Rattle.rules.specs.Operators.{Faces, isPart}
 
 -- the numbers that are listed at `list`
 abbrev pub numbers : List ℕ → ℕ → Faces
@@ -36,11 +34,6 @@ pub record Choice (s : List ℕ) (dim list : ℕ) : Type 0 where
 -- column j of a stored matrix
 abbrev pub column : List ℤ → ℕ → Chain
 column m j i = entries m i j
-
--- 96 zeros
-pub record Blank (v : List ℤ) : Type 0 where
-  pub size : length v ≡ 96
-  pub zero : (i : ℕ) → getD v i (pos 0) ≡ pos 0
 
 -- a column, and zeros for a part of it
 pub record Takeable (m : List ℤ) (cell : ℕ) (taken : List ℤ) : Type 0 where
@@ -67,28 +60,3 @@ isTruePart w v = not (all 96 (λ i. isZero (w i))) && not (all 96 (λ i. eqZ (v 
 pub record Taken (p : ℕ → Bool) (v : Chain) (fine : Bool) (taken : List ℤ) : Type 0 where
   pub fine-is : fine ≡ isPart p v
   pub taken-is : taken ≡ partOf p v
-
--- the boundary of a chain in a stored matrix, and as a list
-abbrev pub edge : List ℤ → Chain → Chain
-edge low w r = dot 96 (λ j. entries low r j) (λ j. w j)
-
-abbrev pub edgeOf : List ℤ → Chain → List ℤ
-edgeOf low w = table 96 (edge low w)
-
--- a matrix, and a chain of its cells, both of -1, 0 and 1
-pub record Summable (low taken : List ℤ) : Type 0 where
-  pub size : length low ≡ 9216
-  pub long : length taken ≡ 96
-  pub units : Units low
-  pub small : (i : ℕ) → i < 96 → natAbs (coefficients taken i) ≤ 1
-
--- the same for a panel or block; no matrix is below a seam's
-pub record Under (dim : ℕ) (low taken : List ℤ) : Type 0 where
-  pub least : 1 ≤ dim
-  pub most : dim ≤ 3
-  pub summable : 2 ≤ dim → Summable low taken
-
--- whether a dividing cell can have the boundary of w, and that boundary
-pub record Bounded (dim : ℕ) (low : List ℤ) (w : Chain) (fine : Bool) (found : List ℤ) : Type 0 where
-  pub fine-is : fine ≡ divides (pred dim) (edge low w)
-  pub found-is : 2 ≤ dim → found ≡ edgeOf low w

@@ -17,9 +17,9 @@ use Rattle.rules.specs.Edits.{boundary, part, divider, halves, repeated, split}
 use Rattle.rules.specs.Operators.{Faces, chosen, isPart, divides, Outcome, edited, unless, afterStep}
 use Rattle.rules.specs.Form.{splitAt}
 use Rattle.rules.specs.Calls.{Lent, lent, coefficients}
-use Rattle.operators.specs.Boundary.{layer}
+use Rattle.operators.specs.Boundary.{layer, edge}
 use Rattle.operators.specs.Held.{Held}
-use Rattle.operators.specs.Part.{Choice, column, partOf, edge}
+use Rattle.operators.specs.Part.{Choice, column, partOf}
 
 -- the bytes up to `list`, and from it on, are those of a cell to be split
 pub record SplitForm (s : List ℕ) (dim cell list : ℕ) : Type 0 where

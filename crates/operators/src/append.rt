@@ -6,9 +6,9 @@ ghost use Rattle.rules.specs.Calls.{lent, coefficients};
 ghost use Rattle.rules.specs.Complex.{pattern};
 ghost use Rattle.operators.specs.Boundary.{layer};
 ghost use Rattle.operators.specs.Append.{tried, setIf, appended, Storable, Closable, Appendable};
-use crate::boundary::are_zero;
-use crate::boundary::column_closes;
 use grid::changes::set_column;
+use grid::runs::are_zero;
+use grid::sums::columns_cancel;
 use rules::counts::Counts;
 
 // The column is stored at `at`, if it is not zero.
@@ -16,7 +16,7 @@ fn set_some(column: &[i8], m: &mut [i8], at: usize) -> bool
     requires { ⌜ Storable (now column) (now m) at ⌝ }
     ensures { λ r. ⌜ tried r (now (m .exit)) ≡ setIf (not (allZero (coefficients (now (column .entry))))) at (now (column .entry)) (now (m .entry)) ⌝ }
 {
-    if are_zero(column, 96) {
+    if are_zero(column, 0, 96) {
         return false;
     }
     set_column(m, at, column);
@@ -28,7 +28,7 @@ fn set_closed(low: &[i8], rows: usize, n: usize, column: &[i8], m: &mut [i8], at
     requires { ⌜ Closable (now low) rows n (now column) (now m) at ⌝ }
     ensures { λ r. ⌜ tried r (now (m .exit)) ≡ setIf (not (allZero (coefficients (now (column .entry)))) && closes rows (layer n (now (low .entry))) (coefficients (now (column .entry)))) at (now (column .entry)) (now (m .entry)) ⌝ }
 {
-    if !column_closes(low, rows, n, column) {
+    if !columns_cancel(low, rows, n, column, 0) {
         return false;
     }
     set_some(column, m, at)

@@ -5,23 +5,12 @@ ghost use lib.ListN.{length};
 ghost use Rattle.rules.specs.Good.{oneEach};
 ghost use Rattle.rules.specs.Operators.{proper};
 ghost use Rattle.rules.specs.Calls.{coefficients};
-ghost use Rattle.operators.specs.Part.{Summable, Under, Blank, Bounded, edgeOf};
+ghost use Rattle.grid.specs.Grid.{Blank};
+ghost use Rattle.operators.specs.Boundary.{Under, Bounded};
 use grid::runs::are_units;
 use grid::runs::are_zero;
 use grid::runs::times_of;
-use grid::sums::add_times;
-
-// The columns of a chain's cells are added up.
-fn add_columns(low: &[i8], taken: &[i8], sums: &mut [i8])
-    requires { ⌜ Summable (now low) (now taken) ⌝ }
-    requires { ⌜ Blank (now sums) ⌝ }
-    ensures { λ _. ⌜ now (sums .exit) ≡ edgeOf (now (low .entry)) (coefficients (now (taken .entry))) ⌝ }
-{
-    for j in 0..96usize {
-        let z = taken[j];
-        add_times(sums, low, 96 * j, z);
-    }
-}
+use grid::sums::add_columns;
 
 // Whether the entries are within -1 to 1, and not all 0.
 fn is_proper(v: &[i8]) -> bool
@@ -56,11 +45,11 @@ pub(crate) fn take_boundary(dim: u8, low: &[i8], taken: &[i8], edge: &mut [i8]) 
     match dim {
         1 => true,
         2 => {
-            add_columns(low, taken, edge);
+            add_columns(edge, low, 96, taken, 0);
             is_seam(edge)
         }
         _ => {
-            add_columns(low, taken, edge);
+            add_columns(edge, low, 96, taken, 0);
             is_proper(edge)
         }
     }

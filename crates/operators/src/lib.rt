@@ -1,6 +1,5 @@
 // The five operators on a good pattern.
 mod append;
-mod boundary;
 mod chosen;
 mod divider;
 mod faces;

@@ -5,7 +5,8 @@ use lib.ListN.{length}
 use Rattle.rules.specs.Refusals.{accepted}
 use Rattle.rules.specs.Complex.{Pattern, pattern}
 use Rattle.good.specs.Tested.{tested}
-use Rattle.engine.proofs.Answers.{lone-read, held, apply-refused, apply-faulty, apply-done}
+use Rattle.engine.proofs.FirstTests.{held}
+use Rattle.engine.proofs.Answers.{lone-read, apply-refused, apply-faulty, apply-done}
 use Rattle.engine.proofs.apply_operator.Statement.{statement}
 use Rattle.engine.proofs.apply_operator.Tie as tie
 

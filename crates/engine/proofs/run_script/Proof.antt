@@ -7,7 +7,7 @@ use lib.ListN.{length}
 use Rattle.rules.specs.Refusals.{accepted}
 use Rattle.rules.specs.Complex.{Pattern, pattern}
 use Rattle.good.specs.Tested.{tested}
-use Rattle.engine.proofs.Answers.{held}
+use Rattle.engine.proofs.FirstTests.{held}
 use Rattle.engine.proofs.ScriptAnswers.{script-says, too-long, run-refused, run-faulty, run-stale, run-done}
 use Rattle.engine.proofs.run_script.Statement.{statement}
 use Rattle.engine.proofs.run_script.Tie as tie

@@ -1,15 +1,18 @@
 -- `engine::boundary::boundary` meets its contract: each return is one of the call's answers.
 use mathlib.Core.Path.{_≡_, sym, _∙_}
 use mathlib.Core.Bool.{true, _&&_}
+use Prim.Native.Nat.{_≤_}
+use native.Mathlib.Omega.{arith}
 use borrow.Author.Needs.{needs}
-use borrow.Author.Tests.{not-true, not-false, eqb-true}
-use Rattle.maths.proofs.Cases.{and-left}
+use borrow.Author.Tests.{not-true, not-false}
+use lib.ListN.{length}
 use Rattle.rules.specs.Refusals.{accepted}
 use Rattle.rules.specs.Complex.{Pattern, pattern}
 use Rattle.rules.specs.Form.{within}
 use Rattle.rules.specs.Calls.{sizedChain}
 use Rattle.good.specs.Tested.{tested}
-use Rattle.engine.proofs.Dimensions.{below-four}
+use Rattle.engine.proofs.FirstTests.{chain-long}
+use Rattle.engine.proofs.Dimensions.{at-most-three}
 use Rattle.engine.proofs.Boundaries.{boundary-short, boundary-refused, boundary-form, boundary-chain, factors, boundary-done}
 use Rattle.engine.proofs.boundary.boundary.Statement.{statement}
 use Rattle.engine.proofs.boundary.boundary.Tie as tie
@@ -17,6 +20,9 @@ use Rattle.engine.proofs.boundary.boundary.Tie as tie
 -- the pattern that was lent
 abbrev lent : tie.Start → Pattern
 lent s = pattern (s .args .c) (s .args .m1 .now) (s .args .m2 .now) (s .args .m3 .now)
+
+four : (s : tie.Start) → length (s .args .c .n) ≡ 4
+four s = search needs
 
 -- the chains are 96 long
 sized : (c : tie.Else1) → sizedChain (c .before .args .chain .now) && sizedChain (c .before .args .out .now) ≡ true
@@ -30,6 +36,9 @@ passed c = sym (c .before .refusal-of-pattern .ensures) ∙ c .if2 .left
 ranged : (c : tie.Else3) → within 1 3 (c .before .before .before .before .args .d) ≡ true
 ranged c = not-false _ (c .if3 .left)
 
+most : (c : tie.Else3) → c .before .before .before .before .args .d ≤ 3
+most c = at-most-three _ (ranged c)
+
 returns : tie.Need-returns
 returns c = boundary-short _ _ _ _ (not-true _ (c .if1 .taken))
 
@@ -42,13 +51,13 @@ returns-3 c =
     boundary-form (lent s) (s .args .d) _ _ (sized (c .before .before .before)) (passed (c .before)) (not-true _ (c .if3 .taken))
 
 array-read-is-chain : tie.Need-array-read-is-chain
-array-read-is-chain c = below-four _ (ranged (c .before))
+array-read-is-chain c = omega (arith, most (c .before))
 
 is-chain-requires : tie.Need-is-chain-requires
 is-chain-requires c κs =
     let long = c .before .before .before .before in
     let s = long .before in
-    eqb-true _ _ (and-left (sizedChain (s .args .chain .now)) (sizedChain (s .args .out .now)) (sized long))
+    chain-long (lent s) (s .args .chain .now) (s .args .out .now) (sized long)
 
 returns-4 : tie.Need-returns-4
 returns-4 c =
@@ -64,7 +73,7 @@ multiply-at-requires c κs =
     let long = test .before .before .before in
     let s = long .before in
     factors (lent s) (s .args .d) (s .args .chain .now) (s .args .out .now) (sized long) (passed (test .before)) (ranged test)
-    (sym (c .before .before .is-chain .ensures) ∙ not-false _ (c .before .if4 .left))
+    (sym (c .before .before .is-chain .ensures) ∙ not-false _ (c .before .if4 .left)) (four s)
 
 returns-5 : tie.Need-returns-5
 returns-5 c =

@@ -1,7 +1,6 @@
--- `good::pattern::is_formed` meets its contract: its five tests are those of the definition; past the rows in use a product is zero.
+-- `good::pattern::is_formed` meets its contract: its five tests are those of the definition.
 use borrow.Author.Needs.{needs}
 use Rattle.good.specs.Parts.{formed}
-use Rattle.good.proofs.PartialSums.{closes-rows}
 use Rattle.good.proofs.pattern.is_formed.Statement.{statement}
 use Rattle.good.proofs.pattern.is_formed.Tie as tie
 
@@ -9,12 +8,7 @@ returns : tie.Need-returns
 unfolding formed
 returns c =
     let a = c .before .before in
-    let s = a .before .before .before in
-    let n = s .pre .0 in
-    let m = s .pre .1 in
-    let first = closes-rows (m .first) (n .first .short) _ _ _ (c .before .product-zero .ensures) in
-    let second = closes-rows (m .second) (n .second .short) _ _ _ (c .product-zero2 .ensures) in
-    rw (a .before .before .seams .ensures, a .before .faces .ensures, a .faces2 .ensures, first, second)
+    rw (a .before .before .seams .ensures, a .before .faces .ensures, a .faces2 .ensures, c .before .product-zero .ensures, c .product-zero2 .ensures)
 
 pub is-formed-spec : {M : Type 1} → statement M
 is-formed-spec =

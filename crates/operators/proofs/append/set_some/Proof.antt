@@ -2,6 +2,7 @@
 use mathlib.Core.Path.{sym, _∙_}
 use borrow.Author.Needs.{needs}
 use Rattle.rules.specs.Good.{allZero}
+use Rattle.operators.proofs.Lists.{from-start}
 use Rattle.operators.proofs.Closing.{set-no, set-yes}
 use Rattle.operators.proofs.append.set_some.Statement.{statement}
 use Rattle.operators.proofs.append.set_some.Tie as tie
@@ -10,14 +11,16 @@ zero : tie.Need-returns
 unfolding allZero
 zero c =
     let a = c .before .before .args in
-    set-no (a .at) (a .column .now) (a .m .now) (sym (c .before .are-zero .ensures) ∙ c .if1 .taken)
+    let column = a .column .now in
+    set-no (a .at) column (a .m .now) (sym (from-start column allZero (c .before .are-zero .ensures)) ∙ c .if1 .taken)
 
 stored : tie.Need-returns-2
 unfolding allZero
 stored c =
     let test = c .before .before .before in
     let a = test .before .before .args in
-    set-yes (a .at) (a .column .now) (a .m .now) (sym (test .before .are-zero .ensures) ∙ test .if1 .left)
+    let column = a .column .now in
+    set-yes (a .at) column (a .m .now) (sym (from-start column allZero (test .before .are-zero .ensures)) ∙ test .if1 .left)
     (c .before .set-column .ensures)
 
 pub set-some-spec : {M : Type 1} → statement M

@@ -5,6 +5,7 @@ use Prim.Native.Nat.{pred, _<_}
 use native.Mathlib.Omega.{arith}
 use borrow.Author.Needs.{needs}
 use borrow.Author.Tests.{not-true, not-false}
+use Rattle.grid.proofs.Summing.{blank}
 use Rattle.rules.specs.Counts.{countOf}
 use Rattle.rules.specs.Complex.{Pattern, complex}
 use Rattle.rules.specs.Operators.{Faces, chainOf, allBelow}
@@ -13,7 +14,6 @@ use Rattle.rules.specs.Calls.{coefficients}
 use Rattle.rules.proofs.Faces.{given-units}
 use Rattle.rules.specs.Complex.{pattern}
 use Rattle.operators.proofs.Bytes.{formed}
-use Rattle.operators.proofs.Columns.{zeros-blank}
 use Rattle.operators.proofs.Made.{count-is, no-such-face, full, not-closed, made}
 use Rattle.operators.proofs.make.make.Statement.{statement}
 use Rattle.operators.proofs.make.make.Tie as tie
@@ -36,7 +36,7 @@ draw-requires : tie.Need-draw-requires
 draw-requires c κs =
     let call = c .before .before in
     let start = call .before .before in
-    record { bytes = start .pre .1; few = rw (cells call) (start .pre .0 .good .few (pred (start .args .dim))); blank = zeros-blank }
+    record { bytes = start .pre .1; few = rw (cells call) (start .pre .0 .good .few (pred (start .args .dim))); blank = blank }
 
 -- whether they are
 below-is : (c : tie.After-draw) → let start = c .before .before .before .before .before in

@@ -1,0 +1,87 @@
+//! Whole inputs for the program `pattern`: a mesh followed directly by a script.
+
+use crate::damaged;
+use crate::meshes::{self, parallel, simplex};
+use crate::patterns::Pattern;
+use crate::random::Random;
+use crate::scripts::{self, of_length, script, OPERATOR_LIMIT, SCRIPT_LIMIT};
+use second::INPUT_LIMIT;
+
+/// Inputs of mixed kinds on meshes of at most `longest` bytes.
+pub fn mixed(random: &mut Random, inputs: usize, longest: usize) -> Vec<Vec<u8>> {
+    let mut bases = meshes::all();
+    bases.retain(|mesh| mesh.len() <= longest);
+    (0..inputs)
+        .map(|at| one(random, &bases[at % bases.len()], at / bases.len()))
+        .collect()
+}
+
+fn one(random: &mut Random, mesh: &[u8], kind: usize) -> Vec<u8> {
+    let mut pattern = Pattern::from_mesh(mesh);
+    let (operators, size) = (random.below(24), 2 + random.below(60));
+    if random.one_in(2) {
+        (_, pattern) = scripts::accepted(random, &pattern, operators, size);
+    }
+    let mesh = pattern.mesh().unwrap_or_default();
+    let mut script = scripts::fitting(random, &pattern, operators, size);
+    match kind % 7 {
+        0..=2 => {}
+        3 => script = damaged::bytes(random, &script),
+        4 => script[1 + random.below(4)] ^= 1,
+        5 => return [damaged::bytes(random, &mesh), script].concat(),
+        _ => {
+            let whole = [mesh, script].concat();
+            return whole[..random.below(whole.len())].to_vec();
+        }
+    }
+    [mesh, script].concat()
+}
+
+fn flips(counts: [u8; 4]) -> Vec<u8> {
+    let flip = |at: usize| {
+        vec![
+            0x51 + (at % 3) as u8,
+            (at * 7 % usize::from(counts[1])) as u8,
+        ]
+    };
+    script(counts, &(0..OPERATOR_LIMIT).map(flip).collect::<Vec<_>>())
+}
+
+/// The largest mesh with the most operators, and inputs at the limits of length of a middling kind.
+pub fn few_at_limits() -> Vec<Vec<u8>> {
+    let (largest, loose) = (parallel([96; 4], 96), parallel([95, 96, 95, 0], 96));
+    let over = of_length(SCRIPT_LIMIT + 1);
+    vec![
+        [largest, flips([96; 4])].concat(),
+        [loose, of_length(SCRIPT_LIMIT)].concat(),
+        [parallel([95; 4], 4), flips([95; 4])].concat(),
+        [simplex(4), over].concat(),
+    ]
+}
+
+/// Every limit of the program: lengths of input, script and listing.
+pub fn all_at_limits() -> Vec<Vec<u8>> {
+    let largest = parallel([96; 4], 96);
+    let loose = parallel([95, 96, 95, 0], 96);
+    let mut inputs = few_at_limits();
+    inputs.extend([vec![], vec![0], vec![0; 4], largest.clone(), loose.clone()]);
+    for length in SCRIPT_LIMIT - 1..SCRIPT_LIMIT + 2 {
+        inputs.push([&loose[..], &of_length(length)].concat());
+        inputs.push([&largest[..], &of_length(length)].concat());
+    }
+    for length in [
+        INPUT_LIMIT - 1,
+        INPUT_LIMIT,
+        INPUT_LIMIT + 1,
+        70_000,
+        200_000,
+    ] {
+        inputs.push(vec![0; length]);
+        let mut long = [&largest[..], &flips([96; 4])].concat();
+        long.resize(length, 1);
+        inputs.push(long);
+    }
+    inputs.extend([largest.len() - 1, largest.len() / 2].map(|end| largest[..end].to_vec()));
+    inputs.push([largest, script([96; 4], &[])].concat());
+    inputs
+}

@@ -1,0 +1,65 @@
+//! Buffers lent alike to both implementations, and how they are shown.
+
+use std::fmt::{Debug, LowerHex};
+
+/// Entries before and after each lent buffer, which no call may touch; odd, so that lent bytes are
+/// not aligned.
+const MARGIN: usize = 5;
+
+/// The same entries twice, each between margins.
+pub struct Twice<T> {
+    both: [Vec<T>; 2],
+}
+
+impl<T: Copy + From<bool> + PartialEq + Debug> Twice<T> {
+    pub fn of(entries: &[T]) -> Self {
+        let margin = [true, false, true, false, true].map(T::from);
+        let whole = [&margin, entries, &margin].concat();
+        Twice {
+            both: [whole.clone(), whole],
+        }
+    }
+
+    pub fn lent(&mut self) -> [&mut [T]; 2] {
+        self.both.each_mut().map(|whole| {
+            let end = whole.len() - MARGIN;
+            &mut whole[MARGIN..end]
+        })
+    }
+
+    /// What the engine left in its buffer.
+    pub fn left(&self) -> &[T] {
+        &self.both[0][MARGIN..self.both[0].len() - MARGIN]
+    }
+
+    /// The first place at which the two differ, margins too.
+    pub fn difference(&self, name: &str) -> Option<String> {
+        let [engine, second] = &self.both;
+        let at = (0..engine.len()).find(|&at| engine[at] != second[at])?;
+        let place = at as isize - MARGIN as isize;
+        Some(format!(
+            "{name}[{place}]: engine {:?}, second {:?}",
+            engine[at], second[at]
+        ))
+    }
+}
+
+/// The three matrices, lent to the engine and to the second program.
+pub fn lend(matrices: &mut [Twice<i8>; 3]) -> [[&mut [i8]; 3]; 2] {
+    let [[a, x], [b, y], [c, z]] = matrices.each_mut().map(|matrix| matrix.lent());
+    [[a, b, c], [x, y, z]]
+}
+
+/// The entries in hex; `00*90` stands for 90 zeroes.
+pub fn hex<T: LowerHex + PartialEq>(entries: &[T]) -> String {
+    let width = 2 * std::mem::size_of::<T>();
+    let mut words = Vec::new();
+    for run in entries.chunk_by(|one, next| one == next) {
+        let word = format!("{:0width$x}", run[0]);
+        match run.len() {
+            1..4 => words.extend(vec![word; run.len()]),
+            many => words.push(format!("{word}*{many}")),
+        }
+    }
+    format!("({} long) {}", entries.len(), words.join(" "))
+}

@@ -1,0 +1,82 @@
+-- `engine::carry::carry` meets its contract: each return is one of the call's answers.
+use mathlib.Core.Path.{_≡_, sym, _∙_}
+use mathlib.Core.Bool.{true, _&&_}
+use borrow.Author.Needs.{needs}
+use borrow.Author.Tests.{not-true, not-false}
+use lib.ListN.{length}
+use Rattle.rules.specs.Refusals.{accepted}
+use Rattle.rules.specs.Complex.{Pattern, pattern}
+use Rattle.rules.specs.Calls.{sizedChain}
+use Rattle.good.specs.Tested.{tested}
+use Rattle.engine.proofs.FirstTests.{held, chain-long, out-long}
+use Rattle.engine.proofs.Answers.{lone-read}
+use Rattle.engine.proofs.CarryAnswers.{carry-short, carry-not-good, carry-form, carry-faulty, carry-done}
+use Rattle.engine.proofs.carry.carry.Statement.{statement}
+use Rattle.engine.proofs.carry.carry.Tie as tie
+
+-- the pattern that was lent
+abbrev lent : tie.Start → Pattern
+lent s = pattern (s .args .c) (s .args .m1 .now) (s .args .m2 .now) (s .args .m3 .now)
+
+four : (s : tie.Start) → length (s .args .c .n) ≡ 4
+four s = search needs
+
+-- the chains are 96 long
+sized : (c : tie.Else1) → let a = c .before .before .args in sizedChain (a .chain .now) && sizedChain (a .out .now) ≡ true
+sized c = not-false _ (c .if1 .left)
+
+-- the pattern passed its test
+passed : (c : tie.Else2) → tested (lent (c .before .before .before .before)) ≡ accepted
+passed c = sym (c .before .refusal-of-pattern .ensures) ∙ c .if2 .left
+
+too-short : tie.Need-returns
+too-short c = carry-short _ _ _ _ _ (not-true _ (c .if1 .taken))
+
+not-good : tie.Need-returns-2
+not-good c = carry-not-good _ _ _ _ _ (sized (c .before .before)) (c .before .refusal-of-pattern .ensures) (c .if2 .taken)
+
+not-offered : tie.Need-returns-3
+not-offered c =
+    let test = c .before in
+    let s = test .before .before .before .before in
+    carry-form (lent s) _ (s .args .d) _ _ (sized (test .before .before)) (passed test) (c .if3 .taken)
+
+carry-through-requires : tie.Need-carry-through-requires
+carry-through-requires c κs =
+    let arm = c .before .before in
+    let form = arm .before .before in
+    let test = form .before in
+    let long = test .before .before .before in
+    let s = long .before .before in
+    record {
+      held = held (lent s) (four s) (passed (test .before));
+      source = lone-read (sym (form .form-of-operator .ensures) ∙ arm .o .given .1);
+      dim = test .if3 .left;
+      long = chain-long (lent s) (s .args .chain .now) (s .args .out .now) (sized long);
+      room = out-long (lent s) (s .args .chain .now) (s .args .out .now) (sized long);
+    }
+
+not-in-form : tie.Need-returns-4
+not-in-form c =
+    let arm = c .before .before in
+    let form = arm .before .before in
+    let test = form .before in
+    let long = test .before .before .before in
+    let s = long .before .before in
+    carry-faulty (lent s) _ (s .args .d) _ _ (sized long) (passed (test .before)) (test .if3 .left)
+    (sym (form .form-of-operator .ensures) ∙ arm .f .given .1) (c .refusal-of .ensures)
+
+done : tie.Need-returns-5
+done c =
+    let arm = c .before .before .before .before in
+    let form = arm .before .before in
+    let test = form .before in
+    let long = test .before .before .before in
+    let s = long .before .before in
+    carry-done (lent s) _ (s .args .d) _ _ (sized long) (passed (test .before)) (test .if3 .left)
+    (sym (form .form-of-operator .ensures) ∙ arm .o .given .1) (c .before .carry-through .ensures)
+
+pub carry-spec : {M : Type 1} → statement M
+carry-spec =
+    tie.close (tie.spec too-short (λ c κs. search needs) not-good not-offered (λ c κs. search needs) (λ c. search needs) (λ c κs. search needs)
+    (λ c. search needs) carry-through-requires not-in-form (λ c. search needs) done)

@@ -1,0 +1,87 @@
+-- How large the numbers of a run are, so that they can be printed.
+use mathlib.Core.Path.{_≡_}
+use mathlib.Core.List.{List}
+use Prim.Native.Nat.{ℕ, _≤_}
+use native.Mathlib.Omega.{arith}
+use lib.IntN.{natAbs}
+use lib.ListN.{length, drop}
+use Rattle.rules.specs.Counts.{countOf}
+use Rattle.rules.specs.Complex.{Complex, empty}
+use Rattle.rules.specs.Good.{Good, isGood}
+use Rattle.rules.specs.Form.{scriptForm}
+use Rattle.rules.specs.Mesh.{readMesh}
+use Rattle.rules.specs.Script.{Ended, Here, runFrom, sameBase, runScript}
+use Rattle.rules.specs.Calls.{Lent, sizedScript}
+use Rattle.rules.proofs.Branches.{cond-each, after-each, good-each, reading-each}
+use Rattle.rules.proofs.Stored.{stored-sized}
+use Rattle.rules.proofs.Eulers.{euler-size}
+use Rattle.rules.proofs.Runs.{run-kept}
+use Rattle.rules.proofs.ReadGood.{read-good}
+use Rattle.engine.proofs.ScriptAnswers.{script-says}
+use Rattle.printing.specs.declared.run.InputRun.{InputRun}
+use Rattle.printing.specs.Input.{endOf, ranTo, runInput}
+use Rattle.printing.proofs.Running.{end-good}
+
+-- a run whose numbers can be printed, and its matrices
+pub record Printable (l : Lent InputRun) : Type 0 where
+  pub ran : l .answer .ran ≤ 1024
+  pub euler : natAbs (l .answer .euler) ≤ 192
+  pub seams : countOf (l .answer .counts) 1 ≤ 96
+  pub panels : countOf (l .answer .counts) 2 ≤ 96
+  pub blocks : countOf (l .answer .counts) 3 ≤ 96
+  pub size1 : length (l .m1) ≡ 9216
+  pub size2 : length (l .m2) ≡ 9216
+  pub size3 : length (l .m3) ≡ 9216
+
+-- no more operators run than a script may have
+ran-most : {X : Complex} → Good X → (script : List ℕ) → endOf script X .ran ≤ 1024
+unfolding endOf runScript
+ran-most {X} G script =
+    let P : Ended → Type 0 = λ e. e .ran ≤ 1024 in
+    let start : Here = record { now = X; ran = 0; at = 7 } in
+    let none : 0 ≤ 1024 = omega arith in
+    good-each P (sizedScript script) (isGood X)
+    (λ l g. after-each P (scriptForm script) (λ f. none) λ n e.
+    let r = run-kept script n start G in
+    let some : runFrom script n start .ran ≤ 1024 = omega (arith, r .ran, r .most, script-says script e .1) in
+    cond-each P (sameBase script X) (λ t. some) (λ t. none))
+    none none
+
+ended-printable : (e : Ended) → Good (e .now) → e .ran ≤ 1024 → Printable (ranTo e)
+ended-printable e G h =
+    let S = stored-sized (e .now) in
+    record {
+      ran = h;
+      euler = euler-size (e .now) (G .few);
+      seams = G .few 1;
+      panels = G .few 2;
+      blocks = G .few 3;
+      size1 = S .size1;
+      size2 = S .size2;
+      size3 = S .size3;
+    }
+
+run-printable : (s : List ℕ) → Printable (runInput s)
+unfolding runInput
+run-printable s =
+    reading-each Printable (readMesh s)
+    (λ r.
+    let S = stored-sized empty in
+    record {
+      ran = omega arith;
+      euler = omega arith;
+      seams = omega arith;
+      panels = omega arith;
+      blocks = omega arith;
+      size1 = S .size1;
+      size2 = S .size2;
+      size3 = S .size3;
+    })
+    (λ X used e.
+    let G = read-good s X used e in
+    let script = drop used s in
+    ended-printable (endOf script X) (end-good G script) (ran-most G script))
+
+-- and so is what was found to be that run
+pub printable : (s : List ℕ) {l : Lent InputRun} → l ≡ runInput s → Printable l
+printable s e = rw e (run-printable s)

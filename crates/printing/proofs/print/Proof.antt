@@ -1,0 +1,32 @@
+-- `printing::print` meets its contract: what the run leaves can be printed, and each piece ends inside the buffer.
+use borrow.Author.Needs.{needs}
+use Rattle.printing.proofs.Sizes.{printable}
+use Rattle.printing.proofs.Rooms.{head-room, panel-room, block-room, piece-inside, piece-length}
+use Rattle.printing.proofs.print.Statement.{statement}
+use Rattle.printing.proofs.print.Tie as tie
+
+put-head-requires : tie.Need-put-head-requires
+put-head-requires c κs =
+    let run = c .before .before .before .before .before in
+    head-room (printable _ (run .run-input .ensures)) _ (search needs)
+
+put-panels-requires : tie.Need-put-panels-requires
+put-panels-requires c κs =
+    let head = c .before .before .before .before .before .before in
+    let run = head .before .before .before .before .before .before in
+    panel-room (printable _ (run .run-input .ensures)) _ (search needs)
+
+put-blocks-requires : tie.Need-put-blocks-requires
+put-blocks-requires c κs =
+    let panels = c .before .before .before .before .before .before in
+    let head = panels .before .before .before .before .before .before .before in
+    let run = head .before .before .before .before .before .before in
+    block-room (printable _ (run .run-input .ensures)) _ (search needs)
+
+pub print-spec : {M : Type 1} → statement M
+print-spec =
+    tie.close (tie.spec (λ c κs. search needs)
+    put-head-requires (λ c. piece-inside (c .before .before .put-head .ensures)) (λ c. piece-length (c .before .before .before .put-head .ensures)) (λ c κs. search needs)
+    put-panels-requires (λ c. piece-inside (c .before .before .put-panels .ensures)) (λ c. piece-length (c .before .before .before .put-panels .ensures)) (λ c κs. search needs)
+    put-blocks-requires (λ c. piece-inside (c .before .before .put-blocks .ensures)) (λ c. piece-length (c .before .before .before .put-blocks .ensures)) (λ c κs. search needs)
+    (λ c. search needs) (λ c. search needs) (λ c. search needs) (λ c. search needs) (λ c. search needs))

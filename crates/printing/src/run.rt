@@ -1,0 +1,49 @@
+// What the program makes of its input.
+ghost use mathlib.Core.Path.{_≡_};
+ghost use Rattle.rules.specs.Complex.{pattern};
+ghost use Rattle.rules.specs.Calls.{lent};
+ghost use Rattle.mesh.specs.Reading.{Long};
+ghost use Rattle.printing.specs.Input.{runInput};
+use engine::euler::euler;
+use engine::run_script;
+use mesh::reader::read_mesh;
+use rules::counts::Counts;
+use rules::refusals::ACCEPTED;
+
+// The refusal of the mesh; then how its script ended, the counts and the Euler number.
+pub struct InputRun {
+    pub mesh: u8,
+    pub ran: u16,
+    pub refusal: u8,
+    pub counts: Counts,
+    pub euler: i16,
+}
+
+// The mesh at the front of the bytes is read into three matrices, and the script after it is run on them.
+pub(crate) fn run_input(s: &[u8], m1: &mut [i8], m2: &mut [i8], m3: &mut [i8]) -> InputRun
+    requires { ⌜ Long (now m1) (now m2) (now m3) ⌝ }
+    ensures { λ r. ⌜ lent r (pattern (r .counts) (now (m1 .exit)) (now (m2 .exit)) (now (m3 .exit))) ≡ runInput (now (s .entry)) ⌝ }
+{
+    let read = read_mesh(s, m1, m2, m3);
+    let c = read.counts;
+    if read.refusal != ACCEPTED {
+        return InputRun {
+            mesh: read.refusal,
+            ran: 0,
+            refusal: 0,
+            counts: c,
+            euler: 0,
+        };
+    }
+    let used = read.used;
+    let done = run_script(c, m1, m2, m3, &s[used..]);
+    let counts = done.counts;
+    let number = euler(counts, m1, m2, m3);
+    InputRun {
+        mesh: ACCEPTED,
+        ran: done.ran,
+        refusal: done.refusal,
+        counts,
+        euler: number.number,
+    }
+}

@@ -1,0 +1,99 @@
+//! The engine for Rust: a pattern with the calls as methods, safe and with no heap. `calls` has the same on lent slices.
+pub mod calls;
+
+/// Rows and columns of a matrix, and coefficients of a chain.
+pub const SIDE: usize = 96;
+/// Entries of a matrix.
+pub const SIZE: usize = SIDE * SIDE;
+
+/// Why a call was refused: a number from 1 to 17 of include/mbyasoka.h.
+#[derive(Clone, Copy, Debug, PartialEq, Eq)]
+pub struct Refusal(pub u8);
+
+pub type Chain = [i32; SIDE];
+
+/// What became of a script: operators before the first refusal stay.
+#[derive(Clone, Copy, Debug, PartialEq, Eq)]
+pub struct Run {
+    pub ran: u16,
+    pub refusal: Option<Refusal>,
+}
+
+/// Counts and boundary matrices. Whoever sets the fields need not see to it that they are good: every call tests them.
+#[derive(Clone, Debug, PartialEq, Eq)]
+pub struct Pattern {
+    pub counts: calls::Counts,
+    pub matrices: [[i8; SIZE]; 3],
+}
+
+impl Default for Pattern {
+    fn default() -> Self {
+        Pattern { counts: [0; 4], matrices: [[0; SIZE]; 3] }
+    }
+}
+
+fn accepted<T>(refusal: u8, answer: T) -> Result<T, Refusal> {
+    if refusal == 0 {
+        Ok(answer)
+    } else {
+        Err(Refusal(refusal))
+    }
+}
+
+impl Pattern {
+    fn lent(&self) -> calls::Matrices<'_> {
+        let [m1, m2, m3] = &self.matrices;
+        [m1, m2, m3]
+    }
+
+    fn lent_mut(&mut self) -> calls::MatricesMut<'_> {
+        let [m1, m2, m3] = &mut self.matrices;
+        [m1, m2, m3]
+    }
+
+    /// Reads a mesh from the front of the bytes and answers how many it used; a refused one leaves the empty pattern.
+    pub fn read(&mut self, bytes: &[u8]) -> Result<usize, Refusal> {
+        let (refusal, counts, used) = calls::read_mesh(bytes, self.lent_mut());
+        self.counts = counts;
+        accepted(refusal, used)
+    }
+
+    /// Writes the pattern as a mesh and answers how many bytes it wrote.
+    pub fn write(&self, out: &mut [u8]) -> Result<usize, Refusal> {
+        let (refusal, written) = calls::write_mesh(self.counts, self.lent(), out);
+        accepted(refusal, written)
+    }
+
+    pub fn check(&self) -> Result<(), Refusal> {
+        accepted(calls::check(self.counts, self.lent()), ())
+    }
+
+    pub fn euler(&self) -> Result<i16, Refusal> {
+        let (refusal, number) = calls::euler(self.counts, self.lent());
+        accepted(refusal, number)
+    }
+
+    /// One operator; a refused one changes nothing.
+    pub fn apply(&mut self, operator: &[u8]) -> Result<(), Refusal> {
+        let (refusal, counts) = calls::apply_operator(self.counts, self.lent_mut(), operator);
+        self.counts = counts;
+        accepted(refusal, ())
+    }
+
+    /// A script, up to its first refusal.
+    pub fn run(&mut self, script: &[u8]) -> Run {
+        let (refusal, counts, ran) = calls::run_script(self.counts, self.lent_mut(), script);
+        self.counts = counts;
+        Run { ran, refusal: accepted(refusal, ()).err() }
+    }
+
+    /// The boundary of a chain of cells of a dimension; a refused call leaves `out`.
+    pub fn boundary(&self, dimension: u8, chain: &Chain, out: &mut Chain) -> Result<(), Refusal> {
+        accepted(calls::boundary(self.counts, self.lent(), dimension, chain, out), ())
+    }
+
+    /// The chain carried through one operator, which is not performed; a refused call leaves `out`.
+    pub fn carry(&self, operator: &[u8], dimension: u8, chain: &Chain, out: &mut Chain) -> Result<(), Refusal> {
+        accepted(calls::carry(self.counts, self.lent(), operator, dimension, chain, out), ())
+    }
+}

@@ -1,0 +1,152 @@
+//! The public calls. All are total: whatever is lent, they answer and never panic.
+//! A refusal is the document's number, 0 meaning accepted.
+
+use crate::border::{lengths_right, load, store};
+use crate::cells::Pattern;
+use crate::chains::{self, Chain};
+use crate::refusal::{demand, number, Answer, Refusal};
+use crate::{mesh, operators, script};
+
+/// Reads the mesh at the front of `bytes`; answers refusal, counts, bytes used.
+pub fn read_mesh(
+    bytes: &[u8],
+    m1: &mut [i8],
+    m2: &mut [i8],
+    m3: &mut [i8],
+) -> (u8, [u8; 4], usize) {
+    if !lengths_right([m1, m2, m3]) {
+        return (Refusal::Length as u8, [0; 4], 0);
+    }
+    let read = mesh::read(bytes);
+    let refusal = number(&read);
+    // The empty pattern stores three zero matrices and counts 0.
+    let (pattern, used) = read.unwrap_or_default();
+    store(&pattern, [m1, m2, m3]);
+    (refusal, pattern.counts(), used)
+}
+
+/// Writes a pattern's mesh to the front of `out`; answers refusal, bytes written.
+pub fn write_mesh(counts: [u8; 4], m1: &[i8], m2: &[i8], m3: &[i8], out: &mut [u8]) -> (u8, usize) {
+    let bytes = match load(counts, [m1, m2, m3]) {
+        Ok(pattern) => mesh::bytes_of(&pattern),
+        Err(refusal) => return (refusal as u8, 0),
+    };
+    match out.get_mut(..bytes.len()) {
+        Some(front) => {
+            front.copy_from_slice(&bytes);
+            (0, bytes.len())
+        }
+        None => (Refusal::ShortOutput as u8, 0),
+    }
+}
+
+/// Whether the lent pattern is good: 0, 1 or 2.
+pub fn check(counts: [u8; 4], m1: &[i8], m2: &[i8], m3: &[i8]) -> u8 {
+    number(&load(counts, [m1, m2, m3]))
+}
+
+/// Answers refusal and Euler number.
+pub fn euler(counts: [u8; 4], m1: &[i8], m2: &[i8], m3: &[i8]) -> (u8, i16) {
+    let loaded = load(counts, [m1, m2, m3]);
+    (number(&loaded), loaded.map_or(0, |pattern| pattern.euler()))
+}
+
+/// Runs the one operator that `bytes` is; answers refusal and counts.
+pub fn apply_operator(
+    counts: [u8; 4],
+    m1: &mut [i8],
+    m2: &mut [i8],
+    m3: &mut [i8],
+    bytes: &[u8],
+) -> (u8, [u8; 4]) {
+    let applied = load(counts, [m1, m2, m3]).and_then(|mut pattern| {
+        let operator = script::single(bytes)?;
+        operators::run(&mut pattern, operator, bytes)?;
+        Ok(pattern)
+    });
+    match applied {
+        Ok(pattern) => {
+            store(&pattern, [m1, m2, m3]);
+            (0, pattern.counts())
+        }
+        Err(refusal) => (refusal as u8, counts),
+    }
+}
+
+/// Runs a script; answers refusal, counts, operators accepted.
+pub fn run_script(
+    counts: [u8; 4],
+    m1: &mut [i8],
+    m2: &mut [i8],
+    m3: &mut [i8],
+    bytes: &[u8],
+) -> (u8, [u8; 4], u16) {
+    // The script's length is part of refusal 1, so it is judged before goodness.
+    let loaded = script::length_right(bytes).and_then(|()| load(counts, [m1, m2, m3]));
+    let mut pattern = match loaded {
+        Ok(pattern) => pattern,
+        Err(refusal) => return (refusal as u8, counts, 0),
+    };
+    let (answer, ran) = script::run(&mut pattern, bytes);
+    store(&pattern, [m1, m2, m3]);
+    (number(&answer), pattern.counts(), ran)
+}
+
+/// Writes the boundary of a chain of dimension `d` to `out`.
+pub fn boundary(
+    counts: [u8; 4],
+    m1: &[i8],
+    m2: &[i8],
+    m3: &[i8],
+    d: u8,
+    chain: &[i32],
+    out: &mut [i32],
+) -> u8 {
+    let answer = load_with_chain(counts, [m1, m2, m3], chain, out)
+        .and_then(|(pattern, chain)| chains::boundary(&pattern, usize::from(d), chain));
+    give(answer, out)
+}
+
+/// Writes a chain of dimension `d`, carried by the operator that `bytes` is, to `out`.
+// The eight are the document's: a pattern is four of them.
+#[allow(clippy::too_many_arguments)]
+pub fn carry(
+    counts: [u8; 4],
+    m1: &[i8],
+    m2: &[i8],
+    m3: &[i8],
+    bytes: &[u8],
+    d: u8,
+    chain: &[i32],
+    out: &mut [i32],
+) -> u8 {
+    let dim = usize::from(d);
+    let answer = load_with_chain(counts, [m1, m2, m3], chain, out).and_then(|(pattern, chain)| {
+        chains::carries(dim)?;
+        let operator = script::single(bytes)?;
+        chains::carry(&pattern, operator, bytes, dim, chain)
+    });
+    give(answer, out)
+}
+
+/// The lent pattern and chain, every length being judged before goodness.
+fn load_with_chain<'a>(
+    counts: [u8; 4],
+    matrices: [&[i8]; 3],
+    chain: &'a [i32],
+    out: &[i32],
+) -> Answer<(Pattern, &'a Chain)> {
+    let lent: &Chain = chain.try_into().map_err(|_| Refusal::Length)?;
+    demand(out.len() == lent.len(), Refusal::Length)?;
+    Ok((load(counts, matrices)?, lent))
+}
+
+fn give(answer: Answer<Chain>, out: &mut [i32]) -> u8 {
+    let refusal = number(&answer);
+    if let Ok(result) = answer {
+        for (entry, value) in out.iter_mut().zip(result) {
+            *entry = value;
+        }
+    }
+    refusal
+}

@@ -1,0 +1,20 @@
+//! A second implementation of the chain rules for sewn-panel patterns,
+//! written from the document alone. Inside, a pattern is lists of sparse
+//! cells; matrices are seen only in `border`, where calls take and give them.
+
+mod border;
+mod calls;
+mod cells;
+mod chains;
+mod form;
+mod good;
+mod mesh;
+mod operators;
+mod printed;
+mod refusal;
+mod script;
+
+pub use calls::{apply_operator, boundary, carry, check, euler, read_mesh, run_script, write_mesh};
+pub use cells::LIMIT;
+pub use operators::EULER_STEP;
+pub use printed::{printed, INPUT_LIMIT};

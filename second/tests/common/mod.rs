@@ -1,0 +1,113 @@
+//! A lent pattern with the calls on it, for the tests.
+#![allow(dead_code)]
+
+/// T of the document: three corners, three seams, one panel.
+pub const T: [u8; 17] = [3, 3, 0, 2, 0, 1, 1, 2, 1, 3, 0, 2, 1, 1, 2, 1, 0];
+
+/// The script of the document's listing.
+pub const LISTING_SCRIPT: [u8; 14] = [4, 3, 3, 1, 0, 2, 0, 0x31, 0, 0x32, 0, 2, 2, 3];
+
+/// A tetrahedron: four corners, six seams, four panels, one block.
+pub const TETRAHEDRON: [u8; 53] = [
+    4, 6, 0, 1, 0, 2, 0, 3, 1, 2, 1, 3, 2, 3, // seams 01 02 03 12 13 23
+    4, 3, 0, 1, 1, 2, 3, 1, 3, 0, 1, 2, 2, 4, 1, // panels 012 013
+    3, 1, 1, 2, 2, 5, 1, 3, 3, 1, 4, 2, 5, 1, // panels 023 123
+    1, 4, 0, 2, 1, 1, 2, 2, 3, 1, // the block
+];
+
+#[derive(Clone, Debug, PartialEq, Eq)]
+pub struct Lent {
+    pub counts: [u8; 4],
+    pub m1: Vec<i8>,
+    pub m2: Vec<i8>,
+    pub m3: Vec<i8>,
+}
+
+impl Lent {
+    pub fn empty() -> Lent {
+        let zero = || vec![0; 9_216];
+        Lent {
+            counts: [0; 4],
+            m1: zero(),
+            m2: zero(),
+            m3: zero(),
+        }
+    }
+
+    /// Reads a mesh, which must be accepted.
+    pub fn read(bytes: &[u8]) -> Lent {
+        let mut lent = Lent::empty();
+        assert_eq!(lent.read_mesh(bytes).0, 0);
+        lent
+    }
+
+    pub fn read_mesh(&mut self, bytes: &[u8]) -> (u8, usize) {
+        let (refusal, counts, used) =
+            second::read_mesh(bytes, &mut self.m1, &mut self.m2, &mut self.m3);
+        self.counts = counts;
+        (refusal, used)
+    }
+
+    pub fn apply(&mut self, bytes: &[u8]) -> u8 {
+        let Lent { counts, m1, m2, m3 } = self;
+        let (refusal, after) = second::apply_operator(*counts, m1, m2, m3, bytes);
+        *counts = after;
+        refusal
+    }
+
+    pub fn run(&mut self, bytes: &[u8]) -> (u8, u16) {
+        let Lent { counts, m1, m2, m3 } = self;
+        let (refusal, after, ran) = second::run_script(*counts, m1, m2, m3, bytes);
+        *counts = after;
+        (refusal, ran)
+    }
+
+    pub fn check(&self) -> u8 {
+        second::check(self.counts, &self.m1, &self.m2, &self.m3)
+    }
+
+    pub fn euler(&self) -> (u8, i16) {
+        second::euler(self.counts, &self.m1, &self.m2, &self.m3)
+    }
+
+    pub fn write(&self, out: &mut [u8]) -> (u8, usize) {
+        second::write_mesh(self.counts, &self.m1, &self.m2, &self.m3, out)
+    }
+
+    /// The pattern's mesh.
+    pub fn mesh(&self) -> Vec<u8> {
+        let mut out = vec![0; 37_252];
+        let (refusal, written) = self.write(&mut out);
+        assert_eq!(refusal, 0);
+        out.truncate(written);
+        out
+    }
+
+    pub fn boundary(&self, d: u8, chain: &[i32], out: &mut [i32]) -> u8 {
+        second::boundary(self.counts, &self.m1, &self.m2, &self.m3, d, chain, out)
+    }
+
+    pub fn carry(&self, bytes: &[u8], d: u8, chain: &[i32], out: &mut [i32]) -> u8 {
+        second::carry(
+            self.counts,
+            &self.m1,
+            &self.m2,
+            &self.m3,
+            bytes,
+            d,
+            chain,
+            out,
+        )
+    }
+}
+
+/// A plain generator of numbers, so that every run is the same.
+pub struct Dice(pub u64);
+
+impl Dice {
+    pub fn below(&mut self, limit: usize) -> usize {
+        self.0 = self.0.wrapping_mul(6_364_136_223_846_793_005);
+        self.0 = self.0.wrapping_add(1_442_695_040_888_963_407);
+        ((self.0 >> 33) as usize) % limit.max(1)
+    }
+}
