@@ -46,23 +46,67 @@ fn files(size: &str, mesh: &[u8], calls: u32) {
     let (mut e, mut p) = both(mesh);
     let mut out = [vec![0u8; mesh.len()], vec![0u8; mesh.len()]];
     let [oe, op] = &mut out;
-    row(&format!("check, {size}"), time(calls, || { let _ = black_box(black_box(&e).check()); }, || { black_box(plain::pattern::check(black_box(&p))); }));
+    row(
+        &format!("check, {size}"),
+        time(
+            calls,
+            || {
+                let _ = black_box(black_box(&e).check());
+            },
+            || {
+                black_box(plain::pattern::check(black_box(&p)));
+            },
+        ),
+    );
     row(
         &format!("check, {size}, against three nested loops"),
-        time(calls, || { let _ = black_box(black_box(&e).check()); }, || { black_box(plain::pattern::check_nested(black_box(&p))); }),
+        time(
+            calls,
+            || {
+                let _ = black_box(black_box(&e).check());
+            },
+            || {
+                black_box(plain::pattern::check_nested(black_box(&p)));
+            },
+        ),
     );
-    row(&format!("write, {size}"), time(calls, || { let _ = black_box(black_box(&e).write(oe)); }, || { black_box(plain::mesh::write_mesh(black_box(&p), op)); }));
+    row(
+        &format!("write, {size}"),
+        time(
+            calls,
+            || {
+                let _ = black_box(black_box(&e).write(oe));
+            },
+            || {
+                black_box(plain::mesh::write_mesh(black_box(&p), op));
+            },
+        ),
+    );
     assert!(out[0] == mesh && out[1] == mesh);
     row(
         &format!("read, {size}, over the same pattern"),
-        time(calls, || { let _ = black_box(e.read(black_box(mesh))); }, || { black_box(plain::mesh::read_mesh(black_box(mesh), &mut p)); }),
+        time(
+            calls,
+            || {
+                let _ = black_box(e.read(black_box(mesh)));
+            },
+            || {
+                black_box(plain::mesh::read_mesh(black_box(mesh), &mut p));
+            },
+        ),
     );
     row(
         &format!("read, {size}, into cleared matrices"),
         time(
             calls,
-            || { e.matrices = [[0; mbyasoka::SIZE]; 3]; let _ = black_box(black_box(&mut e).read(black_box(mesh))); },
-            || { p.m = [[0; mbyasoka::SIZE]; 3]; black_box(plain::mesh::read_mesh(black_box(mesh), black_box(&mut p))); },
+            || {
+                e.matrices = [[0; mbyasoka::SIZE]; 3];
+                let _ = black_box(black_box(&mut e).read(black_box(mesh)));
+            },
+            || {
+                p.m = [[0; mbyasoka::SIZE]; 3];
+                black_box(plain::mesh::read_mesh(black_box(mesh), black_box(&mut p)));
+            },
         ),
     );
 }
@@ -74,12 +118,56 @@ fn small_calls(mesh: &[u8]) {
     let mut out = [[0; 96], [1; 96]];
     let [oe, op] = &mut out;
     let flip = [0x52, 40];
-    row("Euler number", time(20, || { let _ = black_box(black_box(&e).euler()); }, || { black_box(plain::script::euler(black_box(&p))); }));
-    row("one operator", time(20, || { let _ = black_box(e.apply(&flip)); }, || { black_box(plain::script::apply_operator(&mut p, &flip)); }));
+    row(
+        "Euler number",
+        time(
+            20,
+            || {
+                let _ = black_box(black_box(&e).euler());
+            },
+            || {
+                black_box(plain::script::euler(black_box(&p)));
+            },
+        ),
+    );
+    row(
+        "one operator",
+        time(
+            20,
+            || {
+                let _ = black_box(e.apply(&flip));
+            },
+            || {
+                black_box(plain::script::apply_operator(&mut p, &flip));
+            },
+        ),
+    );
     assert!(same(&e, &p));
-    row("boundary", time(20, || { let _ = black_box(e.boundary(2, black_box(&chain), oe)); }, || { black_box(plain::chains::boundary(&p, 2, black_box(&chain), op)); }));
+    row(
+        "boundary",
+        time(
+            20,
+            || {
+                let _ = black_box(e.boundary(2, black_box(&chain), oe));
+            },
+            || {
+                black_box(plain::chains::boundary(&p, 2, black_box(&chain), op));
+            },
+        ),
+    );
     assert_eq!(oe, op);
-    row("carrying", time(20, || { let _ = black_box(e.carry(&flip, 2, black_box(&chain), oe)); }, || { black_box(plain::chains::carry(&p, &flip, 2, black_box(&chain), op)); }));
+    row(
+        "carrying",
+        time(
+            20,
+            || {
+                let _ = black_box(e.carry(&flip, 2, black_box(&chain), oe));
+            },
+            || {
+                black_box(plain::chains::carry(&p, &flip, 2, black_box(&chain), op));
+            },
+        ),
+    );
     assert_eq!(oe, op);
 }
 
@@ -103,8 +191,14 @@ fn full_script(t: &Timed) {
         &format!("{}, with reading the pattern", t.name),
         time(
             2,
-            || { let _ = e.read(black_box(&t.mesh)); black_box(e.run(black_box(&t.script))); },
-            || { plain::mesh::read_mesh(black_box(&t.mesh), &mut p); black_box(plain::script::run_script(&mut p, black_box(&t.script), false)); },
+            || {
+                let _ = e.read(black_box(&t.mesh));
+                black_box(e.run(black_box(&t.script)));
+            },
+            || {
+                plain::mesh::read_mesh(black_box(&t.mesh), &mut p);
+                black_box(plain::script::run_script(&mut p, black_box(&t.script), false));
+            },
         ),
     );
     row(&format!("{}, against the pattern tested at every operator", t.name), time(1, || run_engine(&mut e), || run_plain(&mut p, true)));

@@ -36,10 +36,7 @@ fn pattern_text(pattern: &Pattern) -> String {
 
 fn chain_text(chain: &Chain) -> String {
     let (own, out) = (hex(chain.coefficients), hex(chain.out));
-    format!(
-        "  dimension {}\n  chain {own}\n  out {out}\n",
-        chain.dimension
-    )
+    format!("  dimension {}\n  chain {own}\n  out {out}\n", chain.dimension)
 }
 
 fn lent(pattern: &Pattern) -> [&[i8]; 3] {
@@ -52,19 +49,13 @@ fn twice(pattern: &Pattern) -> [Twice<i8>; 3] {
 
 fn differing(matrices: &[Twice<i8>; 3]) -> Option<String> {
     let named = ["m1", "m2", "m3"].into_iter().zip(matrices);
-    named
-        .into_iter()
-        .find_map(|(name, matrix)| matrix.difference(name))
+    named.into_iter().find_map(|(name, matrix)| matrix.difference(name))
 }
 
 impl Comparison {
     /// The part of the run that these calls are, named in the report of a difference.
     pub fn new(part: String) -> Self {
-        Comparison {
-            coverage: Coverage::default(),
-            calls: 0,
-            part,
-        }
+        Comparison { coverage: Coverage::default(), calls: 0, part }
     }
 
     /// Ends the program at a difference in the answers or in a lent buffer.
@@ -117,12 +108,9 @@ impl Comparison {
         let [ours, [m1, m2, m3]] = lend(&mut matrices);
         let first = engine::read_mesh(bytes, ours);
         let second = second::read_mesh(bytes, m1, m2, m3);
-        self.judge(
-            Call::ReadMesh,
-            [first, second],
-            differing(&matrices),
-            || format!("  bytes {}\n  over {}", hex(bytes), pattern_text(over)),
-        );
+        self.judge(Call::ReadMesh, [first, second], differing(&matrices), || {
+            format!("  bytes {}\n  over {}", hex(bytes), pattern_text(over))
+        });
         self.coverage.answer(Call::ReadMesh, first.0);
     }
 
@@ -132,12 +120,7 @@ impl Comparison {
         let [ours, theirs] = outs.lent();
         let first = engine::write_mesh(pattern.counts, [m1, m2, m3], ours);
         let second = second::write_mesh(pattern.counts, m1, m2, m3, theirs);
-        self.judge(
-            Call::WriteMesh,
-            [first, second],
-            outs.difference("out"),
-            || format!("{}  out {}\n", pattern_text(pattern), hex(out)),
-        );
+        self.judge(Call::WriteMesh, [first, second], outs.difference("out"), || format!("{}  out {}\n", pattern_text(pattern), hex(out)));
         self.coverage.answer(Call::WriteMesh, first.0);
     }
 
@@ -147,20 +130,14 @@ impl Comparison {
         let [ours, [m1, m2, m3]] = lend(&mut matrices);
         let first = engine::apply_operator(pattern.counts, ours, bytes);
         let second = second::apply_operator(pattern.counts, m1, m2, m3, bytes);
-        self.judge(
-            Call::ApplyOperator,
-            [first, second],
-            differing(&matrices),
-            || format!("{}  operator {}\n", pattern_text(pattern), hex(bytes)),
-        );
+        self.judge(Call::ApplyOperator, [first, second], differing(&matrices), || {
+            format!("{}  operator {}\n", pattern_text(pattern), hex(bytes))
+        });
         self.coverage.answer(Call::ApplyOperator, first.0);
         if let Some(&code) = bytes.first() {
             self.coverage.operator(code, first.0);
         }
-        Pattern {
-            counts: first.1,
-            matrices: matrices.map(|matrix| matrix.left().to_vec()),
-        }
+        Pattern { counts: first.1, matrices: matrices.map(|matrix| matrix.left().to_vec()) }
     }
 
     /// Answers the pattern as the call left it.
@@ -169,18 +146,12 @@ impl Comparison {
         let [ours, [m1, m2, m3]] = lend(&mut matrices);
         let first = engine::run_script(pattern.counts, ours, bytes);
         let second = second::run_script(pattern.counts, m1, m2, m3, bytes);
-        self.judge(
-            Call::RunScript,
-            [first, second],
-            differing(&matrices),
-            || format!("{}  script {}\n", pattern_text(pattern), hex(bytes)),
-        );
+        self.judge(Call::RunScript, [first, second], differing(&matrices), || {
+            format!("{}  script {}\n", pattern_text(pattern), hex(bytes))
+        });
         self.coverage.answer(Call::RunScript, first.0);
         self.coverage.script(bytes, first.2, first.0);
-        Pattern {
-            counts: first.1,
-            matrices: matrices.map(|matrix| matrix.left().to_vec()),
-        }
+        Pattern { counts: first.1, matrices: matrices.map(|matrix| matrix.left().to_vec()) }
     }
 
     pub fn boundary(&mut self, pattern: &Pattern, chain: &Chain) {
@@ -190,12 +161,7 @@ impl Comparison {
         let [ours, theirs] = outs.lent();
         let first = engine::boundary(pattern.counts, [m1, m2, m3], dimension, own, ours);
         let second = second::boundary(pattern.counts, m1, m2, m3, dimension, own, theirs);
-        self.judge(
-            Call::Boundary,
-            [first, second],
-            outs.difference("out"),
-            || pattern_text(pattern) + &chain_text(chain),
-        );
+        self.judge(Call::Boundary, [first, second], outs.difference("out"), || pattern_text(pattern) + &chain_text(chain));
         self.coverage.answer(Call::Boundary, first);
     }
 
@@ -208,11 +174,7 @@ impl Comparison {
         let second = second::carry(pattern.counts, m1, m2, m3, bytes, dimension, own, theirs);
         self.judge(Call::Carry, [first, second], outs.difference("out"), || {
             let operator = hex(bytes);
-            format!(
-                "{}  operator {operator}\n{}",
-                pattern_text(pattern),
-                chain_text(chain)
-            )
+            format!("{}  operator {operator}\n{}", pattern_text(pattern), chain_text(chain))
         });
         self.coverage.answer(Call::Carry, first);
     }

@@ -3,10 +3,7 @@
 use std::fs::read_to_string;
 use std::io;
 
-const TABLE: &str = concat!(
-    env!("CARGO_MANIFEST_DIR"),
-    "/../crates/rules/specs/Cases.antt"
-);
+const TABLE: &str = concat!(env!("CARGO_MANIFEST_DIR"), "/../crates/rules/specs/Cases.antt");
 
 /// An input and what is printed for it.
 pub struct Case {
@@ -43,9 +40,7 @@ pub fn table() -> io::Result<Vec<Case>> {
     let triangle = text.lines().find(|line| line.starts_with("T = "));
     let triangle = triangle.and_then(|line| quoted(line).next());
     let triangle = triangle.ok_or_else(unread)?;
-    let rows = text
-        .lines()
-        .filter(|line| line.contains("row ") && line.contains('"'));
+    let rows = text.lines().filter(|line| line.contains("row ") && line.contains('"'));
     let cases: Option<Vec<Case>> = rows.map(|line| row(line, triangle)).collect();
     cases.filter(|cases| !cases.is_empty()).ok_or_else(unread)
 }

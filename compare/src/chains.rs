@@ -12,14 +12,7 @@ pub const DIMENSIONS: [u8; 7] = [0, 1, 2, 3, 4, 5, 255];
 
 /// Coefficients of which none is within the limit.
 pub fn beyond(limit: i32) -> [i32; 6] {
-    [
-        limit + 1,
-        -limit - 1,
-        2 * limit,
-        -2 * limit,
-        i32::MIN,
-        i32::MAX,
-    ]
+    [limit + 1, -limit - 1, 2 * limit, -2 * limit, i32::MIN, i32::MAX]
 }
 
 /// An accepted chain of cells of which there are `count`.
@@ -44,9 +37,7 @@ pub fn lent(random: &mut Random, count: usize, limit: i32) -> Vec<i32> {
         0 => chain[random.below(LIMIT)] = random.pick(&beyond(limit)),
         1 => chain[random.below(count)] = random.pick(&beyond(limit)),
         2 if count < LIMIT => chain[count] = random.pick(&[1, -1, limit]),
-        3 if count < LIMIT => {
-            chain[count + random.below(LIMIT - count)] = random.pick(&[1, -1, limit])
-        }
+        3 if count < LIMIT => chain[count + random.below(LIMIT - count)] = random.pick(&[1, -1, limit]),
         4 if random.one_in(3) => chain.resize(random.pick(&CHAIN_LENGTHS), 0),
         _ => {}
     }
@@ -55,10 +46,6 @@ pub fn lent(random: &mut Random, count: usize, limit: i32) -> Vec<i32> {
 
 /// An output buffer with junk in it, mostly of the right length.
 pub fn out(random: &mut Random) -> Vec<i32> {
-    let length = if random.one_in(32) {
-        random.pick(&CHAIN_LENGTHS)
-    } else {
-        LIMIT
-    };
+    let length = if random.one_in(32) { random.pick(&CHAIN_LENGTHS) } else { LIMIT };
     (0..length).map(|_| random.next() as i32).collect()
 }

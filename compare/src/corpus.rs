@@ -16,16 +16,11 @@ const MIXED: usize = 246;
 fn all_cases() -> io::Result<Vec<Case>> {
     let mut all = cases::table()?;
     if all.iter().any(|case| printed(&case.input) != case.printed) {
-        return Err(io::Error::other(
-            "the table of cases is not what is printed",
-        ));
+        return Err(io::Error::other("the table of cases is not what is printed"));
     }
     let mut generated = inputs::mixed(&mut Random::new(11), MIXED, 1_500);
     generated.extend(inputs::few_at_limits());
-    all.extend(generated.into_iter().map(|input| Case {
-        printed: printed(&input),
-        input,
-    }));
+    all.extend(generated.into_iter().map(|input| Case { printed: printed(&input), input }));
     Ok(all)
 }
 

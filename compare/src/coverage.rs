@@ -20,14 +20,8 @@ const CALLS: [(&str, &[usize]); 8] = [
     ("read_mesh", &[0, 1, 3, 4, 5, 7]),
     ("write_mesh", &[0, 1, 2, 15]),
     ("euler", &[0, 1, 2]),
-    (
-        "apply_operator",
-        &[0, 1, 2, 3, 4, 5, 6, 7, 8, 9, 10, 11, 12, 14],
-    ),
-    (
-        "run_script",
-        &[0, 1, 2, 3, 4, 5, 6, 7, 8, 9, 10, 11, 12, 13, 14],
-    ),
+    ("apply_operator", &[0, 1, 2, 3, 4, 5, 6, 7, 8, 9, 10, 11, 12, 14]),
+    ("run_script", &[0, 1, 2, 3, 4, 5, 6, 7, 8, 9, 10, 11, 12, 13, 14]),
     ("boundary", &[0, 1, 2, 4, 16]),
     ("carry", &[0, 1, 2, 3, 4, 5, 6, 7, 9, 10, 14, 16, 17]),
 ];
@@ -66,9 +60,7 @@ impl Coverage {
     pub fn answer(&mut self, call: Call, number: u8) {
         match self.answered[call as usize].get_mut(usize::from(number)) {
             Some(count) => *count += 1,
-            None => self
-                .strange
-                .push(format!("{} answered {number}", call_name(call))),
+            None => self.strange.push(format!("{} answered {number}", call_name(call))),
         }
     }
 

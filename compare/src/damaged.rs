@@ -5,19 +5,10 @@ use crate::random::Random;
 use second::LIMIT;
 
 /// Values that stand at or beside a limit somewhere in the two files.
-pub const VALUES: [u8; 16] = [
-    0, 1, 2, 3, 4, 5, 16, 0x22, 0x33, 0x41, 95, 96, 97, 127, 128, 255,
-];
+pub const VALUES: [u8; 16] = [0, 1, 2, 3, 4, 5, 16, 0x22, 0x33, 0x41, 95, 96, 97, 127, 128, 255];
 
 /// Lengths of matrices that are wrong.
-pub const MATRIX_LENGTHS: [usize; 6] = [
-    0,
-    1,
-    96,
-    MATRIX_LENGTH - 1,
-    MATRIX_LENGTH + 1,
-    2 * MATRIX_LENGTH,
-];
+pub const MATRIX_LENGTHS: [usize; 6] = [0, 1, 96, MATRIX_LENGTH - 1, MATRIX_LENGTH + 1, 2 * MATRIX_LENGTH];
 
 /// Lengths of chains that are wrong.
 pub const CHAIN_LENGTHS: [usize; 5] = [0, 1, LIMIT - 1, LIMIT + 1, 2 * LIMIT];
@@ -27,11 +18,7 @@ pub fn bytes(random: &mut Random, bytes: &[u8]) -> Vec<u8> {
     let mut changed = bytes.to_vec();
     for _ in 0..1 + random.below(2) {
         let at = random.below(changed.len());
-        let value = if random.one_in(2) {
-            random.pick(&VALUES)
-        } else {
-            random.byte()
-        };
+        let value = if random.one_in(2) { random.pick(&VALUES) } else { random.byte() };
         match random.below(5) {
             0 => changed.truncate(at),
             1 => changed.insert(at, value),
@@ -76,10 +63,7 @@ pub fn spoiled(random: &mut Random, pattern: &Pattern, way: usize) -> Pattern {
 }
 
 fn set_inside(random: &mut Random, pattern: &mut Pattern, dim: usize, values: &[i8]) {
-    let (column, row) = (
-        random.below(pattern.count(dim)),
-        random.below(pattern.count(dim - 1)),
-    );
+    let (column, row) = (random.below(pattern.count(dim)), random.below(pattern.count(dim - 1)));
     pattern.matrices[dim - 1][LIMIT * column + row] = random.pick(values);
 }
 
@@ -91,9 +75,7 @@ fn set_outside(random: &mut Random, pattern: &mut Pattern, dim: usize) {
         0 if rows < LIMIT => (column, row) = (random.below(columns), rows),
         1 if columns < LIMIT => (column, row) = (columns, random.below(rows)),
         _ if column < columns && rows < LIMIT => row = rows + random.below(LIMIT - rows),
-        _ if column < columns && columns < LIMIT => {
-            column = columns + random.below(LIMIT - columns)
-        }
+        _ if column < columns && columns < LIMIT => column = columns + random.below(LIMIT - columns),
         _ => {}
     }
     pattern.matrices[dim - 1][LIMIT * column + row] = random.pick(&[1, -1]);

@@ -11,9 +11,7 @@ use second::INPUT_LIMIT;
 pub fn mixed(random: &mut Random, inputs: usize, longest: usize) -> Vec<Vec<u8>> {
     let mut bases = meshes::all();
     bases.retain(|mesh| mesh.len() <= longest);
-    (0..inputs)
-        .map(|at| one(random, &bases[at % bases.len()], at / bases.len()))
-        .collect()
+    (0..inputs).map(|at| one(random, &bases[at % bases.len()], at / bases.len())).collect()
 }
 
 fn one(random: &mut Random, mesh: &[u8], kind: usize) -> Vec<u8> {
@@ -38,12 +36,7 @@ fn one(random: &mut Random, mesh: &[u8], kind: usize) -> Vec<u8> {
 }
 
 fn flips(counts: [u8; 4]) -> Vec<u8> {
-    let flip = |at: usize| {
-        vec![
-            0x51 + (at % 3) as u8,
-            (at * 7 % usize::from(counts[1])) as u8,
-        ]
-    };
+    let flip = |at: usize| vec![0x51 + (at % 3) as u8, (at * 7 % usize::from(counts[1])) as u8];
     script(counts, &(0..OPERATOR_LIMIT).map(flip).collect::<Vec<_>>())
 }
 
@@ -69,13 +62,7 @@ pub fn all_at_limits() -> Vec<Vec<u8>> {
         inputs.push([&loose[..], &of_length(length)].concat());
         inputs.push([&largest[..], &of_length(length)].concat());
     }
-    for length in [
-        INPUT_LIMIT - 1,
-        INPUT_LIMIT,
-        INPUT_LIMIT + 1,
-        70_000,
-        200_000,
-    ] {
+    for length in [INPUT_LIMIT - 1, INPUT_LIMIT, INPUT_LIMIT + 1, 70_000, 200_000] {
         inputs.push(vec![0; length]);
         let mut long = [&largest[..], &flips([96; 4])].concat();
         long.resize(length, 1);

@@ -15,9 +15,7 @@ impl<T: Copy + From<bool> + PartialEq + Debug> Twice<T> {
     pub fn of(entries: &[T]) -> Self {
         let margin = [true, false, true, false, true].map(T::from);
         let whole = [&margin, entries, &margin].concat();
-        Twice {
-            both: [whole.clone(), whole],
-        }
+        Twice { both: [whole.clone(), whole] }
     }
 
     pub fn lent(&mut self) -> [&mut [T]; 2] {
@@ -37,10 +35,7 @@ impl<T: Copy + From<bool> + PartialEq + Debug> Twice<T> {
         let [engine, second] = &self.both;
         let at = (0..engine.len()).find(|&at| engine[at] != second[at])?;
         let place = at as isize - MARGIN as isize;
-        Some(format!(
-            "{name}[{place}]: engine {:?}, second {:?}",
-            engine[at], second[at]
-        ))
+        Some(format!("{name}[{place}]: engine {:?}, second {:?}", engine[at], second[at]))
     }
 }
 

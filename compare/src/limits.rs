@@ -53,13 +53,8 @@ impl Sweeps<'_> {
         let out = self.random.junk(64);
         self.comparison.write_mesh(pattern, &out);
         self.comparison.apply_operator(pattern, operator);
-        self.comparison
-            .run_script(pattern, &script(pattern.counts, &[operator.to_vec()]));
-        let chain = Chain {
-            dimension: 1,
-            coefficients: &[0; LIMIT],
-            out: &[7; LIMIT],
-        };
+        self.comparison.run_script(pattern, &script(pattern.counts, &[operator.to_vec()]));
+        let chain = Chain { dimension: 1, coefficients: &[0; LIMIT], out: &[7; LIMIT] };
         self.comparison.boundary(pattern, &chain);
         self.comparison.carry(pattern, operator, &chain);
     }
@@ -87,10 +82,7 @@ impl Sweeps<'_> {
 
     pub fn chains(&mut self, pattern: &Pattern) {
         for dimension in DIMENSIONS {
-            let count = pattern
-                .counts
-                .get(usize::from(dimension))
-                .map_or(LIMIT, |&count| count.into());
+            let count = pattern.counts.get(usize::from(dimension)).map_or(LIMIT, |&count| count.into());
             for limit in [BOUNDARY_LIMIT, CARRY_LIMIT] {
                 let full = [vec![limit; count], vec![0; LIMIT - count]].concat();
                 self.both_chains(pattern, dimension, &full);
@@ -105,11 +97,7 @@ impl Sweeps<'_> {
             for length in CHAIN_LENGTHS {
                 self.both_chains(pattern, dimension, &vec![0; length]);
                 let (coefficients, out) = (&[0; LIMIT], &vec![7; length]);
-                let chain = Chain {
-                    dimension,
-                    coefficients,
-                    out,
-                };
+                let chain = Chain { dimension, coefficients, out };
                 self.comparison.boundary(pattern, &chain);
                 self.comparison.carry(pattern, &[0x10], &chain);
             }
@@ -120,11 +108,7 @@ impl Sweeps<'_> {
         let code = self.random.pick(&CODES);
         let operator = fitting(&mut self.random, pattern, code);
         let out = &out(&mut self.random);
-        let chain = Chain {
-            dimension,
-            coefficients,
-            out,
-        };
+        let chain = Chain { dimension, coefficients, out };
         self.comparison.boundary(pattern, &chain);
         self.comparison.carry(pattern, &operator, &chain);
     }

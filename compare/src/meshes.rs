@@ -20,9 +20,7 @@ fn mesh(corners: usize, seams: &[(u8, u8)], sewn: [&Cells; 2]) -> Vec<u8> {
 pub fn listed(faces: &[Face]) -> Vec<u8> {
     let mut faces = faces.to_vec();
     faces.sort_unstable();
-    let pairs = faces
-        .iter()
-        .flat_map(|&(number, sign)| [number, if sign > 0 { 1 } else { 2 }]);
+    let pairs = faces.iter().flat_map(|&(number, sign)| [number, if sign > 0 { 1 } else { 2 }]);
     std::iter::once(faces.len() as u8).chain(pairs).collect()
 }
 
@@ -32,11 +30,7 @@ fn by_turns(number: u8) -> i8 {
 }
 
 fn ends(seam: &[Face]) -> (u8, u8) {
-    let end = |sign| {
-        seam.iter()
-            .find(|face| face.1 == sign)
-            .map_or(0, |face| face.0)
-    };
+    let end = |sign| seam.iter().find(|face| face.1 == sign).map_or(0, |face| face.0);
     (end(-1), end(1))
 }
 
@@ -50,30 +44,17 @@ fn of_cells(cells: &[Cells; 4]) -> Vec<u8> {
 /// even. `parallel([96; 4], 96)` is the largest mesh.
 pub fn parallel(counts: [u8; 4], faces: u8) -> Vec<u8> {
     let [corners, seams, panels, blocks] = counts;
-    let signed = |alternating: u8, j: u8| {
-        (0..faces)
-            .map(move |i| (i, by_turns(alternating * i + j)))
-            .collect::<Vec<Face>>()
-    };
-    let sewn =
-        [(panels, 1), (blocks, 0)].map(|(n, turns)| (0..n).map(|j| signed(turns, j)).collect());
-    mesh(
-        corners.into(),
-        &vec![(0, 1); seams.into()],
-        [&sewn[0], &sewn[1]],
-    )
+    let signed = |alternating: u8, j: u8| (0..faces).map(move |i| (i, by_turns(alternating * i + j))).collect::<Vec<Face>>();
+    let sewn = [(panels, 1), (blocks, 0)].map(|(n, turns)| (0..n).map(|j| signed(turns, j)).collect());
+    mesh(corners.into(), &vec![(0, 1); seams.into()], [&sewn[0], &sewn[1]])
 }
 
 /// A ring of n seams, sewn to panels that are plus and minus the ring by turns; each two panels
 /// that follow one another are a block.
 pub fn ring(n: u8, panels: u8) -> Vec<u8> {
     let seams: Vec<_> = (0..n).map(|i| (i, (i + 1) % n)).collect();
-    let sewn: Cells = (0..panels)
-        .map(|j| (0..n).map(|i| (i, by_turns(j))).collect())
-        .collect();
-    let blocks: Cells = (1..panels)
-        .map(|j| vec![(j - 1, by_turns(j)), (j, by_turns(j))])
-        .collect();
+    let sewn: Cells = (0..panels).map(|j| (0..n).map(|i| (i, by_turns(j))).collect()).collect();
+    let blocks: Cells = (1..panels).map(|j| vec![(j - 1, by_turns(j)), (j, by_turns(j))]).collect();
     mesh(n.into(), &seams, [&sewn, &blocks])
 }
 
@@ -88,15 +69,8 @@ pub fn simplex(n: u8) -> Vec<u8> {
         }
     }
     let cells = [0, 1, 2, 3].map(|dim: usize| {
-        let faces = |members: &Vec<u8>| {
-            (0..members.len())
-                .map(|at| left_out(&named, dim, members, at))
-                .collect()
-        };
-        named[dim]
-            .iter()
-            .map(|members| if dim == 0 { Vec::new() } else { faces(members) })
-            .collect()
+        let faces = |members: &Vec<u8>| (0..members.len()).map(|at| left_out(&named, dim, members, at)).collect();
+        named[dim].iter().map(|members| if dim == 0 { Vec::new() } else { faces(members) }).collect()
     });
     of_cells(&cells)
 }
@@ -105,10 +79,7 @@ pub fn simplex(n: u8) -> Vec<u8> {
 fn left_out(named: &[Vec<Vec<u8>>; 4], dim: usize, members: &[u8], at: usize) -> Face {
     let mut face = members.to_vec();
     face.remove(at);
-    let number = named[dim - 1]
-        .iter()
-        .position(|own| *own == face)
-        .unwrap_or(0);
+    let number = named[dim - 1].iter().position(|own| *own == face).unwrap_or(0);
     (number as u8, by_turns(at as u8))
 }
 
@@ -124,20 +95,11 @@ pub fn grid(sizes: [u8; 3]) -> Vec<u8> {
             }
         }
     }
-    let cells = [0, 1, 2, 3].map(|dim: usize| {
-        named[dim]
-            .iter()
-            .map(|&cell| sides(&named, dim, cell))
-            .collect()
-    });
+    let cells = [0, 1, 2, 3].map(|dim: usize| named[dim].iter().map(|&cell| sides(&named, dim, cell)).collect());
     of_cells(&cells)
 }
 
-fn sides(
-    named: &[Vec<([u8; 3], u8)>; 4],
-    dim: usize,
-    (at, directions): ([u8; 3], u8),
-) -> Vec<Face> {
+fn sides(named: &[Vec<([u8; 3], u8)>; 4], dim: usize, (at, directions): ([u8; 3], u8)) -> Vec<Face> {
     let mut faces = Vec::new();
     let mut sign = 1;
     for axis in (0..3).filter(|axis| directions >> axis & 1 == 1) {
@@ -145,10 +107,7 @@ fn sides(
         far[axis] += 1;
         for (side, sign) in [(at, -sign), (far, sign)] {
             let face = (side, directions & !(1 << axis));
-            let number = named[dim - 1]
-                .iter()
-                .position(|&own| own == face)
-                .unwrap_or(0);
+            let number = named[dim - 1].iter().position(|&own| own == face).unwrap_or(0);
             faces.push((number as u8, sign));
         }
         sign = -sign;
@@ -163,15 +122,7 @@ pub fn all() -> Vec<Vec<u8>> {
     // Two seams there and back, and two panels that cancel one another: merges refused by 12.
     meshes.extend([vec![2, 2, 0, 1, 1, 0, 0, 0], parallel([2; 4], 2)]);
     meshes.extend((3..=8).map(simplex));
-    let grids = [
-        [1, 1, 1],
-        [2, 1, 1],
-        [2, 2, 2],
-        [3, 2, 2],
-        [5, 1, 1],
-        [3, 3, 0],
-        [6, 6, 0],
-    ];
+    let grids = [[1, 1, 1], [2, 1, 1], [2, 2, 2], [3, 2, 2], [5, 1, 1], [3, 3, 0], [6, 6, 0]];
     meshes.extend(grids.map(grid));
     meshes.extend([(3, 2), (4, 5), (12, 12), (20, 40)].map(|(n, panels)| ring(n, panels)));
     meshes.push(parallel([3, 6, 5, 4], 4));

@@ -6,10 +6,7 @@ use crate::random::Random;
 use second::LIMIT;
 
 /// Every operator in every dimension.
-pub const CODES: [u8; 17] = [
-    0x10, 0x11, 0x12, 0x13, 0x20, 0x21, 0x22, 0x23, 0x31, 0x32, 0x33, 0x40, 0x41, 0x42, 0x51, 0x52,
-    0x53,
-];
+pub const CODES: [u8; 17] = [0x10, 0x11, 0x12, 0x13, 0x20, 0x21, 0x22, 0x23, 0x31, 0x32, 0x33, 0x40, 0x41, 0x42, 0x51, 0x52, 0x53];
 const GROWING: [u8; 7] = [0x10, 0x11, 0x12, 0x13, 0x31, 0x32, 0x33];
 const SHRINKING: [u8; 7] = [0x20, 0x21, 0x22, 0x23, 0x40, 0x41, 0x42];
 
@@ -31,15 +28,8 @@ pub fn fitting(random: &mut Random, pattern: &Pattern, code: u8) -> Vec<u8> {
     match code {
         0x10 => vec![code],
         0x11 => {
-            let (tail, step) = (
-                random.below(pattern.count(0)),
-                1 + random.below(pattern.count(0).max(2) - 1),
-            );
-            vec![
-                code,
-                tail as u8,
-                ((tail + step) % pattern.count(0).max(1)) as u8,
-            ]
+            let (tail, step) = (random.below(pattern.count(0)), 1 + random.below(pattern.count(0).max(2) - 1));
+            vec![code, tail as u8, ((tail + step) % pattern.count(0).max(1)) as u8]
         }
         0x12 | 0x13 => [vec![code], listed(&made(random, pattern, dim))].concat(),
         0x20..=0x22 => vec![code, likely(random, pattern, dim, |users| users.is_empty())],
@@ -57,12 +47,7 @@ fn between_two(users: &[Face]) -> bool {
 }
 
 /// A cell whose users are as wanted, if a few tries find one.
-fn likely(
-    random: &mut Random,
-    pattern: &Pattern,
-    dim: usize,
-    wanted: impl Fn(&[Face]) -> bool,
-) -> u8 {
+fn likely(random: &mut Random, pattern: &Pattern, dim: usize, wanted: impl Fn(&[Face]) -> bool) -> u8 {
     let mut cell = 0;
     for _ in 0..12 {
         cell = random.below(pattern.count(dim));
@@ -87,10 +72,7 @@ fn made(random: &mut Random, pattern: &Pattern, dim: usize) -> Vec<Face> {
     }
     let sign = random.sign();
     let copied = pattern.faces(dim, random.below(pattern.count(dim)));
-    copied
-        .into_iter()
-        .map(|(face, own)| (face, own * sign))
-        .collect()
+    copied.into_iter().map(|(face, own)| (face, own * sign)).collect()
 }
 
 /// Signed faces whose boundary is zero, as far as adding one after another gets there.
@@ -130,11 +112,7 @@ fn part(random: &mut Random, pattern: &Pattern, dim: usize, cell: usize) -> Vec<
     let mut chosen = vec![rest.remove(random.below(rest.len()))];
     let (wanted, any) = (random.below(rest.len().max(1)), random.one_in(3));
     for _ in 0..wanted {
-        let touches = |face: &u8| {
-            any || chosen
-                .iter()
-                .any(|own| share(pattern, dim - 1, *own, *face))
-        };
+        let touches = |face: &u8| any || chosen.iter().any(|own| share(pattern, dim - 1, *own, *face));
         let near: Vec<u8> = rest.iter().copied().filter(touches).collect();
         if near.is_empty() {
             break;
@@ -155,14 +133,7 @@ fn share(pattern: &Pattern, dim: usize, one: u8, other: u8) -> bool {
 /// A number at or past a count.
 pub fn past(random: &mut Random, count: usize) -> u8 {
     let next = count as u8;
-    random.pick(&[
-        next,
-        next,
-        next.saturating_add(1),
-        95.max(next),
-        96.max(next),
-        255,
-    ])
+    random.pick(&[next, next, next.saturating_add(1), 95.max(next), 96.max(next), 255])
 }
 
 /// An operator of good form, likely to be refused by 5 or by 7 to 12.
@@ -174,26 +145,11 @@ pub fn mistaken(random: &mut Random, pattern: &Pattern, code: u8) -> Vec<u8> {
         (0x10, _) => vec![code],
         (0x11, 0) => vec![code, cell, past(random, pattern.count(0))],
         (0x11, 1) => vec![code, past(random, pattern.count(0)), 0],
-        (0x11, _) => vec![
-            code,
-            cell % pattern.counts[0].max(1),
-            cell % pattern.counts[0].max(1),
-        ],
+        (0x11, _) => vec![code, cell % pattern.counts[0].max(1), cell % pattern.counts[0].max(1)],
         (0x12 | 0x13, _) => [vec![code], listed(&any_faces(random, pattern, dim))].concat(),
         (0x32 | 0x33, _) => {
             let list = mistaken_part(random, pattern, dim, cell.into());
-            [
-                vec![
-                    code,
-                    if choice == 0 {
-                        past(random, pattern.count(dim))
-                    } else {
-                        cell
-                    },
-                ],
-                numbers(list),
-            ]
-            .concat()
+            [vec![code, if choice == 0 { past(random, pattern.count(dim)) } else { cell }], numbers(list)].concat()
         }
         (_, 0) => vec![code, past(random, pattern.count(dim))],
         _ => vec![code, cell],

@@ -16,10 +16,7 @@ pub struct Pattern {
 
 impl Pattern {
     pub fn empty() -> Self {
-        Pattern {
-            counts: [0; 4],
-            matrices: [0; 3].map(|entry| vec![entry; MATRIX_LENGTH]),
-        }
+        Pattern { counts: [0; 4], matrices: [0; 3].map(|entry| vec![entry; MATRIX_LENGTH]) }
     }
 
     /// The pattern of a mesh that is accepted.
@@ -45,8 +42,7 @@ impl Pattern {
     /// so the faster of the two does it.
     pub fn apply(&mut self, operator: &[u8]) -> bool {
         let [m1, m2, m3] = &mut self.matrices;
-        let (refusal, counts) =
-            mbyasoka::calls::apply_operator(self.counts, [m1, m2, m3], operator);
+        let (refusal, counts) = mbyasoka::calls::apply_operator(self.counts, [m1, m2, m3], operator);
         self.counts = counts;
         refusal == 0
     }
@@ -73,8 +69,7 @@ impl Pattern {
     /// The cells that have this cell of dimension `dim`, 0 to 2, as a face, each with the sign it
     /// has there.
     pub fn users(&self, dim: usize, cell: usize) -> Vec<Face> {
-        let row =
-            (0..self.count(dim + 1)).map(|user| (user as u8, self.entry(dim + 1, user, cell)));
+        let row = (0..self.count(dim + 1)).map(|user| (user as u8, self.entry(dim + 1, user, cell)));
         row.filter(|&(_, sign)| sign != 0).collect()
     }
 }

@@ -67,14 +67,8 @@ fn differs(input: &[u8], chunk: usize, text: &[u8]) -> bool {
     if text == expected.as_bytes() {
         return false;
     }
-    let same = text
-        .iter()
-        .zip(expected.as_bytes())
-        .take_while(|(one, other)| one == other);
-    println!(
-        "DIFFERENCE at byte {} of the printed result, chunks of {chunk}",
-        same.count()
-    );
+    let same = text.iter().zip(expected.as_bytes()).take_while(|(one, other)| one == other);
+    println!("DIFFERENCE at byte {} of the printed result, chunks of {chunk}", same.count());
     println!("  input {}", hex(input));
     println!("  program: {:?}", String::from_utf8_lossy(text));
     println!("  second:  {expected:?}");
@@ -94,12 +88,7 @@ pub fn compare(command: &[String]) -> io::Result<ExitCode> {
             return Ok(ExitCode::FAILURE);
         }
     }
-    for length in [
-        INPUT_LIMIT - 1,
-        INPUT_LIMIT,
-        INPUT_LIMIT + 1,
-        2 * INPUT_LIMIT,
-    ] {
+    for length in [INPUT_LIMIT - 1, INPUT_LIMIT, INPUT_LIMIT + 1, 2 * INPUT_LIMIT] {
         let taken = taken(command, &vec![0; length])?;
         if taken != length.min(INPUT_LIMIT) as u64 {
             println!("DIFFERENCE: of {length} bytes of input the program takes {taken}");

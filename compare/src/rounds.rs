@@ -20,15 +20,8 @@ pub struct Rounds<'a> {
 
 impl<'a> Rounds<'a> {
     pub fn new(comparison: &'a mut Comparison, random: Random) -> Self {
-        let pool = meshes::all()
-            .iter()
-            .map(|mesh| Pattern::from_mesh(mesh))
-            .collect();
-        Rounds {
-            comparison,
-            random,
-            pool,
-        }
+        let pool = meshes::all().iter().map(|mesh| Pattern::from_mesh(mesh)).collect();
+        Rounds { comparison, random, pool }
     }
 
     /// Rounds until there have been as many calls.
@@ -104,11 +97,7 @@ impl<'a> Rounds<'a> {
 
     fn script(&mut self, pattern: &Pattern, sound: &Pattern, size: usize) {
         let long = self.random.one_in(100) && sound.size() < 200;
-        let operators = if long {
-            scripts::OPERATOR_LIMIT
-        } else {
-            self.random.below(12)
-        };
+        let operators = if long { scripts::OPERATOR_LIMIT } else { self.random.below(12) };
         let mut bytes = scripts::fitting(&mut self.random, sound, operators, size);
         if self.random.one_in(3) {
             bytes = damaged::bytes(&mut self.random, &bytes);
@@ -126,11 +115,7 @@ impl<'a> Rounds<'a> {
 
     fn chain(&mut self, pattern: &Pattern, limit: i32) -> (u8, Vec<i32>, Vec<i32>) {
         let dimension = self.dimension();
-        let count = pattern
-            .counts
-            .get(usize::from(dimension))
-            .copied()
-            .unwrap_or(50);
+        let count = pattern.counts.get(usize::from(dimension)).copied().unwrap_or(50);
         let chain = chains::lent(&mut self.random, count.into(), limit);
         (dimension, chain, chains::out(&mut self.random))
     }
@@ -138,11 +123,7 @@ impl<'a> Rounds<'a> {
     fn boundary(&mut self, pattern: &Pattern) {
         let (dimension, chain, out) = self.chain(pattern, BOUNDARY_LIMIT);
         let (coefficients, out) = (&chain, &out);
-        let chain = Chain {
-            dimension,
-            coefficients,
-            out,
-        };
+        let chain = Chain { dimension, coefficients, out };
         self.comparison.boundary(pattern, &chain);
     }
 
@@ -150,11 +131,7 @@ impl<'a> Rounds<'a> {
         let bytes = self.some_operator(sound);
         let (dimension, chain, out) = self.chain(pattern, CARRY_LIMIT);
         let (coefficients, out) = (&chain, &out);
-        let chain = Chain {
-            dimension,
-            coefficients,
-            out,
-        };
+        let chain = Chain { dimension, coefficients, out };
         self.comparison.carry(pattern, &bytes, &chain);
     }
 }

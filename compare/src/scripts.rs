@@ -16,12 +16,7 @@ pub fn script(base: [u8; 4], operators: &[Vec<u8>]) -> Vec<u8> {
 
 /// Operators that are accepted one after another, leading towards a size, and what they make of
 /// the pattern.
-pub fn accepted(
-    random: &mut Random,
-    pattern: &Pattern,
-    operators: usize,
-    size: usize,
-) -> (Vec<Vec<u8>>, Pattern) {
+pub fn accepted(random: &mut Random, pattern: &Pattern, operators: usize, size: usize) -> (Vec<Vec<u8>>, Pattern) {
     let mut now = pattern.clone();
     let mut list = Vec::new();
     // A pattern may have no operator that fits the wish, so the tries are counted.

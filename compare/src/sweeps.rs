@@ -16,13 +16,7 @@ pub struct Sweeps<'a> {
 
 /// Patterns small enough to be tried at every byte.
 fn small() -> Vec<Pattern> {
-    let meshes = [
-        simplex(3),
-        simplex(4),
-        grid([1, 1, 1]),
-        ring(4, 5),
-        parallel([3, 6, 5, 4], 4),
-    ];
+    let meshes = [simplex(3), simplex(4), grid([1, 1, 1]), ring(4, 5), parallel([3, 6, 5, 4], 4)];
     meshes.map(|mesh| Pattern::from_mesh(&mesh)).into()
 }
 
@@ -68,12 +62,7 @@ impl<'a> Sweeps<'a> {
     fn junk(&mut self) -> Pattern {
         let mut pattern = Pattern::empty();
         for matrix in &mut pattern.matrices {
-            *matrix = self
-                .random
-                .junk(matrix.len())
-                .iter()
-                .map(|&byte| byte as i8)
-                .collect();
+            *matrix = self.random.junk(matrix.len()).iter().map(|&byte| byte as i8).collect();
         }
         pattern
     }
@@ -88,13 +77,10 @@ impl<'a> Sweeps<'a> {
         }
         for mesh in meshes::all() {
             let near_end = mesh.len().saturating_sub(40);
-            for end in
-                (0..=mesh.len()).filter(|end| *end < 240 || *end > near_end || end % 397 == 0)
-            {
+            for end in (0..=mesh.len()).filter(|end| *end < 240 || *end > near_end || end % 397 == 0) {
                 self.comparison.read_mesh(&mesh[..end], &junk);
             }
-            self.comparison
-                .read_mesh(&[mesh, vec![4, 0, 0]].concat(), &junk);
+            self.comparison.read_mesh(&[mesh, vec![4, 0, 0]].concat(), &junk);
         }
     }
 
@@ -119,11 +105,7 @@ impl<'a> Sweeps<'a> {
         let dim = self.random.below(4);
         let coefficients = &sound(&mut self.random, pattern.count(dim), CARRY_LIMIT);
         let out = &out(&mut self.random);
-        let chain = Chain {
-            dimension: dim as u8,
-            coefficients,
-            out,
-        };
+        let chain = Chain { dimension: dim as u8, coefficients, out };
         self.comparison.carry(pattern, bytes, &chain);
     }
 
@@ -150,20 +132,8 @@ impl<'a> Sweeps<'a> {
         let junk = self.random.junk(2 * SCRIPT_LIMIT);
         for (pattern, length) in small().iter().zip(SCRIPT_LIMIT - 1..) {
             self.comparison.run_script(pattern, &junk[..length]);
-            for count in [
-                0,
-                1,
-                2,
-                255,
-                256,
-                OPERATOR_LIMIT - 1,
-                OPERATOR_LIMIT,
-                OPERATOR_LIMIT + 1,
-                65_535,
-            ] {
-                let flips: Vec<_> = (0..count)
-                    .map(|i| vec![0x51, i as u8 % pattern.counts[1]])
-                    .collect();
+            for count in [0, 1, 2, 255, 256, OPERATOR_LIMIT - 1, OPERATOR_LIMIT, OPERATOR_LIMIT + 1, 65_535] {
+                let flips: Vec<_> = (0..count).map(|i| vec![0x51, i as u8 % pattern.counts[1]]).collect();
                 let mut bytes = script(pattern.counts, &flips);
                 bytes.truncate(SCRIPT_LIMIT);
                 self.comparison.run_script(pattern, &bytes);

@@ -11,33 +11,91 @@ mod raw {
     extern "C" {
         pub fn mbyasoka_check(counts: *const [u8; 4], m1: *const i8, l1: usize, m2: *const i8, l2: usize, m3: *const i8, l3: usize) -> u8;
         pub fn mbyasoka_read_mesh(
-            bytes: *const u8, length: usize,
-            m1: *mut i8, l1: usize, m2: *mut i8, l2: usize, m3: *mut i8, l3: usize,
-            counts: *mut [u8; 4], used: *mut usize,
+            bytes: *const u8,
+            length: usize,
+            m1: *mut i8,
+            l1: usize,
+            m2: *mut i8,
+            l2: usize,
+            m3: *mut i8,
+            l3: usize,
+            counts: *mut [u8; 4],
+            used: *mut usize,
         ) -> u8;
         pub fn mbyasoka_write_mesh(
-            counts: *const [u8; 4], m1: *const i8, l1: usize, m2: *const i8, l2: usize, m3: *const i8, l3: usize,
-            out: *mut u8, room: usize, written: *mut usize,
+            counts: *const [u8; 4],
+            m1: *const i8,
+            l1: usize,
+            m2: *const i8,
+            l2: usize,
+            m3: *const i8,
+            l3: usize,
+            out: *mut u8,
+            room: usize,
+            written: *mut usize,
         ) -> u8;
         pub fn mbyasoka_euler(
-            counts: *const [u8; 4], m1: *const i8, l1: usize, m2: *const i8, l2: usize, m3: *const i8, l3: usize,
+            counts: *const [u8; 4],
+            m1: *const i8,
+            l1: usize,
+            m2: *const i8,
+            l2: usize,
+            m3: *const i8,
+            l3: usize,
             number: *mut i16,
         ) -> u8;
         pub fn mbyasoka_apply_operator(
-            counts: *mut [u8; 4], m1: *mut i8, l1: usize, m2: *mut i8, l2: usize, m3: *mut i8, l3: usize,
-            bytes: *const u8, length: usize,
+            counts: *mut [u8; 4],
+            m1: *mut i8,
+            l1: usize,
+            m2: *mut i8,
+            l2: usize,
+            m3: *mut i8,
+            l3: usize,
+            bytes: *const u8,
+            length: usize,
         ) -> u8;
         pub fn mbyasoka_run_script(
-            counts: *mut [u8; 4], m1: *mut i8, l1: usize, m2: *mut i8, l2: usize, m3: *mut i8, l3: usize,
-            bytes: *const u8, length: usize, ran: *mut u16,
+            counts: *mut [u8; 4],
+            m1: *mut i8,
+            l1: usize,
+            m2: *mut i8,
+            l2: usize,
+            m3: *mut i8,
+            l3: usize,
+            bytes: *const u8,
+            length: usize,
+            ran: *mut u16,
         ) -> u8;
         pub fn mbyasoka_boundary(
-            counts: *const [u8; 4], m1: *const i8, l1: usize, m2: *const i8, l2: usize, m3: *const i8, l3: usize,
-            dimension: u8, chain: *const i32, chain_length: usize, out: *mut i32, room: usize,
+            counts: *const [u8; 4],
+            m1: *const i8,
+            l1: usize,
+            m2: *const i8,
+            l2: usize,
+            m3: *const i8,
+            l3: usize,
+            dimension: u8,
+            chain: *const i32,
+            chain_length: usize,
+            out: *mut i32,
+            room: usize,
         ) -> u8;
         pub fn mbyasoka_carry(
-            counts: *const [u8; 4], m1: *const i8, l1: usize, m2: *const i8, l2: usize, m3: *const i8, l3: usize,
-            bytes: *const u8, length: usize, dimension: u8, chain: *const i32, chain_length: usize, out: *mut i32, room: usize,
+            counts: *const [u8; 4],
+            m1: *const i8,
+            l1: usize,
+            m2: *const i8,
+            l2: usize,
+            m3: *const i8,
+            l3: usize,
+            bytes: *const u8,
+            length: usize,
+            dimension: u8,
+            chain: *const i32,
+            chain_length: usize,
+            out: *mut i32,
+            room: usize,
         ) -> u8;
     }
 }
@@ -54,9 +112,16 @@ pub fn read_mesh(bytes: &[u8], [m1, m2, m3]: MatricesMut) -> (u8, Counts, usize)
     let (mut counts, mut used) = ([0; 4], 0);
     let refusal = unsafe {
         raw::mbyasoka_read_mesh(
-            bytes.as_ptr(), bytes.len(),
-            m1.as_mut_ptr(), m1.len(), m2.as_mut_ptr(), m2.len(), m3.as_mut_ptr(), m3.len(),
-            &mut counts, &mut used,
+            bytes.as_ptr(),
+            bytes.len(),
+            m1.as_mut_ptr(),
+            m1.len(),
+            m2.as_mut_ptr(),
+            m2.len(),
+            m3.as_mut_ptr(),
+            m3.len(),
+            &mut counts,
+            &mut used,
         )
     };
     (refusal, counts, used)
@@ -67,8 +132,16 @@ pub fn write_mesh(counts: Counts, [m1, m2, m3]: Matrices, out: &mut [u8]) -> (u8
     let mut written = 0;
     let refusal = unsafe {
         raw::mbyasoka_write_mesh(
-            &counts, m1.as_ptr(), m1.len(), m2.as_ptr(), m2.len(), m3.as_ptr(), m3.len(),
-            out.as_mut_ptr(), out.len(), &mut written,
+            &counts,
+            m1.as_ptr(),
+            m1.len(),
+            m2.as_ptr(),
+            m2.len(),
+            m3.as_ptr(),
+            m3.len(),
+            out.as_mut_ptr(),
+            out.len(),
+            &mut written,
         )
     };
     (refusal, written)
@@ -85,8 +158,15 @@ pub fn euler(counts: Counts, [m1, m2, m3]: Matrices) -> (u8, i16) {
 pub fn apply_operator(mut counts: Counts, [m1, m2, m3]: MatricesMut, bytes: &[u8]) -> (u8, Counts) {
     let refusal = unsafe {
         raw::mbyasoka_apply_operator(
-            &mut counts, m1.as_mut_ptr(), m1.len(), m2.as_mut_ptr(), m2.len(), m3.as_mut_ptr(), m3.len(),
-            bytes.as_ptr(), bytes.len(),
+            &mut counts,
+            m1.as_mut_ptr(),
+            m1.len(),
+            m2.as_mut_ptr(),
+            m2.len(),
+            m3.as_mut_ptr(),
+            m3.len(),
+            bytes.as_ptr(),
+            bytes.len(),
         )
     };
     (refusal, counts)
@@ -97,8 +177,16 @@ pub fn run_script(mut counts: Counts, [m1, m2, m3]: MatricesMut, bytes: &[u8]) -
     let mut ran = 0;
     let refusal = unsafe {
         raw::mbyasoka_run_script(
-            &mut counts, m1.as_mut_ptr(), m1.len(), m2.as_mut_ptr(), m2.len(), m3.as_mut_ptr(), m3.len(),
-            bytes.as_ptr(), bytes.len(), &mut ran,
+            &mut counts,
+            m1.as_mut_ptr(),
+            m1.len(),
+            m2.as_mut_ptr(),
+            m2.len(),
+            m3.as_mut_ptr(),
+            m3.len(),
+            bytes.as_ptr(),
+            bytes.len(),
+            &mut ran,
         )
     };
     (refusal, counts, ran)
@@ -107,8 +195,18 @@ pub fn run_script(mut counts: Counts, [m1, m2, m3]: MatricesMut, bytes: &[u8]) -
 pub fn boundary(counts: Counts, [m1, m2, m3]: Matrices, dimension: u8, chain: &[i32], out: &mut [i32]) -> u8 {
     unsafe {
         raw::mbyasoka_boundary(
-            &counts, m1.as_ptr(), m1.len(), m2.as_ptr(), m2.len(), m3.as_ptr(), m3.len(),
-            dimension, chain.as_ptr(), chain.len(), out.as_mut_ptr(), out.len(),
+            &counts,
+            m1.as_ptr(),
+            m1.len(),
+            m2.as_ptr(),
+            m2.len(),
+            m3.as_ptr(),
+            m3.len(),
+            dimension,
+            chain.as_ptr(),
+            chain.len(),
+            out.as_mut_ptr(),
+            out.len(),
         )
     }
 }
@@ -116,8 +214,20 @@ pub fn boundary(counts: Counts, [m1, m2, m3]: Matrices, dimension: u8, chain: &[
 pub fn carry(counts: Counts, [m1, m2, m3]: Matrices, bytes: &[u8], dimension: u8, chain: &[i32], out: &mut [i32]) -> u8 {
     unsafe {
         raw::mbyasoka_carry(
-            &counts, m1.as_ptr(), m1.len(), m2.as_ptr(), m2.len(), m3.as_ptr(), m3.len(),
-            bytes.as_ptr(), bytes.len(), dimension, chain.as_ptr(), chain.len(), out.as_mut_ptr(), out.len(),
+            &counts,
+            m1.as_ptr(),
+            m1.len(),
+            m2.as_ptr(),
+            m2.len(),
+            m3.as_ptr(),
+            m3.len(),
+            bytes.as_ptr(),
+            bytes.len(),
+            dimension,
+            chain.as_ptr(),
+            chain.len(),
+            out.as_mut_ptr(),
+            out.len(),
         )
     }
 }

@@ -8,12 +8,7 @@ use crate::refusal::{demand, number, Answer, Refusal};
 use crate::{mesh, operators, script};
 
 /// Reads the mesh at the front of `bytes`; answers refusal, counts, bytes used.
-pub fn read_mesh(
-    bytes: &[u8],
-    m1: &mut [i8],
-    m2: &mut [i8],
-    m3: &mut [i8],
-) -> (u8, [u8; 4], usize) {
+pub fn read_mesh(bytes: &[u8], m1: &mut [i8], m2: &mut [i8], m3: &mut [i8]) -> (u8, [u8; 4], usize) {
     if !lengths_right([m1, m2, m3]) {
         return (Refusal::Length as u8, [0; 4], 0);
     }
@@ -52,13 +47,7 @@ pub fn euler(counts: [u8; 4], m1: &[i8], m2: &[i8], m3: &[i8]) -> (u8, i16) {
 }
 
 /// Runs the one operator that `bytes` is; answers refusal and counts.
-pub fn apply_operator(
-    counts: [u8; 4],
-    m1: &mut [i8],
-    m2: &mut [i8],
-    m3: &mut [i8],
-    bytes: &[u8],
-) -> (u8, [u8; 4]) {
+pub fn apply_operator(counts: [u8; 4], m1: &mut [i8], m2: &mut [i8], m3: &mut [i8], bytes: &[u8]) -> (u8, [u8; 4]) {
     let applied = load(counts, [m1, m2, m3]).and_then(|mut pattern| {
         let operator = script::single(bytes)?;
         operators::run(&mut pattern, operator, bytes)?;
@@ -74,13 +63,7 @@ pub fn apply_operator(
 }
 
 /// Runs a script; answers refusal, counts, operators accepted.
-pub fn run_script(
-    counts: [u8; 4],
-    m1: &mut [i8],
-    m2: &mut [i8],
-    m3: &mut [i8],
-    bytes: &[u8],
-) -> (u8, [u8; 4], u16) {
+pub fn run_script(counts: [u8; 4], m1: &mut [i8], m2: &mut [i8], m3: &mut [i8], bytes: &[u8]) -> (u8, [u8; 4], u16) {
     // The script's length is part of refusal 1, so it is judged before goodness.
     let loaded = script::length_right(bytes).and_then(|()| load(counts, [m1, m2, m3]));
     let mut pattern = match loaded {
@@ -93,33 +76,16 @@ pub fn run_script(
 }
 
 /// Writes the boundary of a chain of dimension `d` to `out`.
-pub fn boundary(
-    counts: [u8; 4],
-    m1: &[i8],
-    m2: &[i8],
-    m3: &[i8],
-    d: u8,
-    chain: &[i32],
-    out: &mut [i32],
-) -> u8 {
-    let answer = load_with_chain(counts, [m1, m2, m3], chain, out)
-        .and_then(|(pattern, chain)| chains::boundary(&pattern, usize::from(d), chain));
+pub fn boundary(counts: [u8; 4], m1: &[i8], m2: &[i8], m3: &[i8], d: u8, chain: &[i32], out: &mut [i32]) -> u8 {
+    let answer =
+        load_with_chain(counts, [m1, m2, m3], chain, out).and_then(|(pattern, chain)| chains::boundary(&pattern, usize::from(d), chain));
     give(answer, out)
 }
 
 /// Writes a chain of dimension `d`, carried by the operator that `bytes` is, to `out`.
 // The eight are the document's: a pattern is four of them.
 #[allow(clippy::too_many_arguments)]
-pub fn carry(
-    counts: [u8; 4],
-    m1: &[i8],
-    m2: &[i8],
-    m3: &[i8],
-    bytes: &[u8],
-    d: u8,
-    chain: &[i32],
-    out: &mut [i32],
-) -> u8 {
+pub fn carry(counts: [u8; 4], m1: &[i8], m2: &[i8], m3: &[i8], bytes: &[u8], d: u8, chain: &[i32], out: &mut [i32]) -> u8 {
     let dim = usize::from(d);
     let answer = load_with_chain(counts, [m1, m2, m3], chain, out).and_then(|(pattern, chain)| {
         chains::carries(dim)?;
@@ -130,12 +96,7 @@ pub fn carry(
 }
 
 /// The lent pattern and chain, every length being judged before goodness.
-fn load_with_chain<'a>(
-    counts: [u8; 4],
-    matrices: [&[i8]; 3],
-    chain: &'a [i32],
-    out: &[i32],
-) -> Answer<(Pattern, &'a Chain)> {
+fn load_with_chain<'a>(counts: [u8; 4], matrices: [&[i8]; 3], chain: &'a [i32], out: &[i32]) -> Answer<(Pattern, &'a Chain)> {
     let lent: &Chain = chain.try_into().map_err(|_| Refusal::Length)?;
     demand(out.len() == lent.len(), Refusal::Length)?;
     Ok((load(counts, matrices)?, lent))

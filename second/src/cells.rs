@@ -17,10 +17,7 @@ pub struct Cell {
 impl Cell {
     /// The sign of `face` in this cell, 0 if it is not a face of it.
     pub fn sign_of(&self, face: u8) -> i8 {
-        match self
-            .faces
-            .binary_search_by_key(&face, |&(number, _)| number)
-        {
+        match self.faces.binary_search_by_key(&face, |&(number, _)| number) {
             Ok(at) => self.faces.get(at).map_or(0, |&(_, sign)| sign),
             Err(_) => 0,
         }
@@ -122,10 +119,7 @@ impl Pattern {
     /// The cells above that have this cell as a face, each with the sign it has there.
     pub fn users(&self, dim: usize, number: u8) -> Vec<(usize, i8)> {
         let above = self.cells(dim + 1).iter().enumerate();
-        above
-            .map(|(user, cell)| (user, cell.sign_of(number)))
-            .filter(|&(_, sign)| sign != 0)
-            .collect()
+        above.map(|(user, cell)| (user, cell.sign_of(number))).filter(|&(_, sign)| sign != 0).collect()
     }
 
     /// The boundary of a signed list of cells of dimension `dim`; zeroes are kept.

@@ -37,13 +37,7 @@ pub fn carries(dim: usize) -> Answer<()> {
 }
 
 /// The chain after an operator decoded from `bytes`; the pattern stays as it is.
-pub fn carry(
-    pattern: &Pattern,
-    operator: Operator,
-    bytes: &[u8],
-    dim: usize,
-    chain: &Chain,
-) -> Answer<Chain> {
+pub fn carry(pattern: &Pattern, operator: Operator, bytes: &[u8], dim: usize, chain: &Chain) -> Answer<Chain> {
     if let Operator::Kill { .. } | Operator::Merge { .. } = operator {
         return Err(Refusal::NotCarried);
     }
@@ -53,9 +47,7 @@ pub fn carry(
     // A made cell and a dividing cell get 0, and 0 is what stands past the count.
     let mut out = *chain;
     match operator {
-        Operator::Split {
-            dim: split, cell, ..
-        } if split == dim => {
+        Operator::Split { dim: split, cell, .. } if split == dim => {
             if let Some(new) = out.get_mut(count) {
                 *new = coefficient(chain, cell);
             }

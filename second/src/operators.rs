@@ -7,13 +7,7 @@ use crate::refusal::{demand, Answer, Refusal};
 
 /// What an accepted operator adds to the Euler number: rows make, kill, split,
 /// merge at, flip; columns dimension 0 to 3. Where there is no operator, 0.
-pub const EULER_STEP: [[i16; 4]; 5] = [
-    [1, -1, 1, -1],
-    [-1, 1, -1, 1],
-    [0, 0, 0, 0],
-    [0, 0, 0, 0],
-    [0, 0, 0, 0],
-];
+pub const EULER_STEP: [[i16; 4]; 5] = [[1, -1, 1, -1], [-1, 1, -1, 1], [0, 0, 0, 0], [0, 0, 0, 0], [0, 0, 0, 0]];
 
 /// Runs an operator decoded from `bytes`; a refused one leaves the pattern as it is.
 pub fn run(pattern: &mut Pattern, operator: Operator, bytes: &[u8]) -> Answer<()> {
@@ -89,8 +83,7 @@ fn split_sewn(pattern: &mut Pattern, dim: usize, cell: u8, listed: &[u8]) -> Ans
     demand(exist, Refusal::NotBelowCount)?;
     room_to_split(pattern, dim)?;
     let is_listed = |face: &u8| listed.binary_search(face).is_ok();
-    let (chosen, rest): (Vec<Face>, Vec<Face>) =
-        whole.faces.iter().partition(|(face, _)| is_listed(face));
+    let (chosen, rest): (Vec<Face>, Vec<Face>) = whole.faces.iter().partition(|(face, _)| is_listed(face));
     // Listed numbers differ, so equal lengths mean that each is a face of the cell.
     let choice = chosen.len() == listed.len() && !chosen.is_empty() && !rest.is_empty();
     demand(choice, Refusal::Chosen)?;
@@ -107,14 +100,7 @@ fn split_sewn(pattern: &mut Pattern, dim: usize, cell: u8, listed: &[u8]) -> Ans
 
 /// Carries out a judged split. The new numbers are the highest of their
 /// dimensions, so pushing them last keeps every list rising.
-fn divide(
-    pattern: &mut Pattern,
-    dim: usize,
-    cell: u8,
-    mut chosen: Vec<Face>,
-    mut rest: Vec<Face>,
-    dividing: Cell,
-) {
+fn divide(pattern: &mut Pattern, dim: usize, cell: u8, mut chosen: Vec<Face>, mut rest: Vec<Face>, dividing: Cell) {
     let dividing_number = pattern.count(dim - 1) as u8;
     let new_number = pattern.count(dim) as u8;
     chosen.push((dividing_number, -1));

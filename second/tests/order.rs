@@ -57,8 +57,7 @@ fn script_form() {
 #[test]
 fn operator_form() {
     for code in 0..=255 {
-        let known =
-            matches!(code, 0x10..=0x13 | 0x20..=0x23 | 0x31..=0x33 | 0x40..=0x42 | 0x51..=0x53);
+        let known = matches!(code, 0x10..=0x13 | 0x20..=0x23 | 0x31..=0x33 | 0x40..=0x42 | 0x51..=0x53);
         let short = if code == 0x10 { 0 } else { 3 };
         assert_eq!(on_t(&[code]), if known { short } else { 4 }, "{code:x}");
     }
@@ -89,25 +88,17 @@ fn operator_meaning() {
 #[test]
 fn split_refused_by_its_dividing_cell() {
     // Two rings of two seams, apart, in one panel: a whole ring has no ends.
-    let rings = [
-        4, 4, 0, 1, 1, 0, 2, 3, 3, 2, 1, 4, 0, 1, 1, 1, 2, 1, 3, 1, 0,
-    ];
+    let rings = [4, 4, 0, 1, 1, 0, 2, 3, 3, 2, 1, 4, 0, 1, 1, 1, 2, 1, 3, 1, 0];
     let mut lent = Lent::read(&rings);
     assert_eq!(lent.apply(&[0x32, 0, 2, 0, 1]), 10);
-    assert_eq!(
-        lent.apply(&[0x32, 0, 2, 0, 2]),
-        10,
-        "two tails and two heads"
-    );
+    assert_eq!(lent.apply(&[0x32, 0, 2, 0, 2]), 10, "two tails and two heads");
     assert_eq!(lent.mesh(), rings);
 }
 
 #[test]
 fn merge_refused_by_its_sum() {
     // Seams 0 to 1, then three times 1 to 0; the panels are +0 +1 and +0 -1 +2 +3.
-    let twice = [
-        2, 4, 0, 1, 1, 0, 1, 0, 1, 0, 2, 2, 0, 1, 1, 1, 4, 0, 1, 1, 2, 2, 1, 3, 1, 0,
-    ];
+    let twice = [2, 4, 0, 1, 1, 0, 1, 0, 1, 0, 2, 2, 0, 1, 1, 1, 4, 0, 1, 1, 2, 2, 1, 3, 1, 0];
     let mut lent = Lent::read(&twice);
     assert_eq!(lent.apply(&[0x41, 1]), 12, "seam 0 would count twice");
     assert_eq!(lent.mesh(), twice);
@@ -138,11 +129,7 @@ fn carrying_order() {
     chain[95] = 1;
     let mut out = [7; 96];
     assert_eq!(lent.carry(&[0xff], 4, &chain, &mut out), 4);
-    assert_eq!(
-        lent.carry(&[], 4, &chain, &mut out),
-        4,
-        "dimension before form"
-    );
+    assert_eq!(lent.carry(&[], 4, &chain, &mut out), 4, "dimension before form");
     assert_eq!(lent.carry(&[0x20], 0, &chain, &mut out), 3);
     assert_eq!(lent.carry(&[0x20, 200, 0], 0, &chain, &mut out), 14);
     assert_eq!(lent.carry(&[0x20, 200], 0, &chain, &mut out), 17);

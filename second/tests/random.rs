@@ -6,9 +6,7 @@ use common::{Dice, Lent, TETRAHEDRON};
 
 /// A list of rising numbers below `limit`.
 fn rising(dice: &mut Dice, limit: usize) -> Vec<u8> {
-    (0..limit.min(96) as u8)
-        .filter(|_| dice.below(3) == 0)
-        .collect()
+    (0..limit.min(96) as u8).filter(|_| dice.below(3) == 0).collect()
 }
 
 /// The boundary of a random block or panel of the pattern, with its signs.
@@ -27,10 +25,7 @@ fn signed_copy(dice: &mut Dice, lent: &Lent, dim: usize) -> Vec<u8> {
 }
 
 fn operator(dice: &mut Dice, lent: &Lent) -> Vec<u8> {
-    let codes = [
-        0x10, 0x11, 0x12, 0x13, 0x20, 0x21, 0x22, 0x23, 0x31, 0x32, 0x32, 0x33, 0x33, 0x40, 0x41,
-        0x42, 0x51, 0x52, 0x53,
-    ];
+    let codes = [0x10, 0x11, 0x12, 0x13, 0x20, 0x21, 0x22, 0x23, 0x31, 0x32, 0x32, 0x33, 0x33, 0x40, 0x41, 0x42, 0x51, 0x52, 0x53];
     let code = codes[dice.below(codes.len())];
     let dim = usize::from(code & 15);
     let mut number = |dim: usize| dice.below(usize::from(lent.counts[dim]) + 1) as u8;
@@ -55,9 +50,7 @@ fn apt_split(dice: &mut Dice, lent: &Lent, dim: usize) -> Vec<u8> {
     let cell = dice.below(usize::from(lent.counts[dim]));
     let matrix = if dim == 2 { &lent.m2 } else { &lent.m3 };
     let column = &matrix[96 * cell..96 * cell + 96];
-    let faces: Vec<u8> = (0..96u8)
-        .filter(|&face| column[usize::from(face)] != 0 && dice.below(2) == 0)
-        .collect();
+    let faces: Vec<u8> = (0..96u8).filter(|&face| column[usize::from(face)] != 0 && dice.below(2) == 0).collect();
     [vec![0x30 + dim as u8, cell as u8, faces.len() as u8], faces].concat()
 }
 

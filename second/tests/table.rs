@@ -88,11 +88,7 @@ fn case_8_merge_of_a_ring() {
 fn case_9_merge_at_corner() {
     let (refusal, lent) = applied(&[0x40, 1]);
     assert_eq!(refusal, 0);
-    assert_eq!(
-        lent.mesh(),
-        [2, 2, 0, 1, 0, 1, 1, 2, 0, 2, 1, 1, 0],
-        "seams 0 and 1 are both 0 to 1 after the closing up"
-    );
+    assert_eq!(lent.mesh(), [2, 2, 0, 1, 0, 1, 1, 2, 0, 2, 1, 1, 0], "seams 0 and 1 are both 0 to 1 after the closing up");
     assert_eq!(applied(&[0x40, 0]).0, 11);
 }
 

@@ -26,12 +26,7 @@ pub struct Lent {
 impl Lent {
     pub fn empty() -> Lent {
         let zero = || vec![0; 9_216];
-        Lent {
-            counts: [0; 4],
-            m1: zero(),
-            m2: zero(),
-            m3: zero(),
-        }
+        Lent { counts: [0; 4], m1: zero(), m2: zero(), m3: zero() }
     }
 
     /// Reads a mesh, which must be accepted.
@@ -42,8 +37,7 @@ impl Lent {
     }
 
     pub fn read_mesh(&mut self, bytes: &[u8]) -> (u8, usize) {
-        let (refusal, counts, used) =
-            second::read_mesh(bytes, &mut self.m1, &mut self.m2, &mut self.m3);
+        let (refusal, counts, used) = second::read_mesh(bytes, &mut self.m1, &mut self.m2, &mut self.m3);
         self.counts = counts;
         (refusal, used)
     }
@@ -88,16 +82,7 @@ impl Lent {
     }
 
     pub fn carry(&self, bytes: &[u8], d: u8, chain: &[i32], out: &mut [i32]) -> u8 {
-        second::carry(
-            self.counts,
-            &self.m1,
-            &self.m2,
-            &self.m3,
-            bytes,
-            d,
-            chain,
-            out,
-        )
+        second::carry(self.counts, &self.m1, &self.m2, &self.m3, bytes, d, chain, out)
     }
 }
 
