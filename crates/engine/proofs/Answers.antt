@@ -15,10 +15,10 @@ use Rattle.rules.specs.Complex.{Pattern, complex}
 use Rattle.rules.specs.Operators.{step}
 use Rattle.rules.specs.Form.{operatorAt, loneOperator, facesOf, faultNumber}
 use Rattle.rules.specs.Calls.{Lent, lent, applied, applyCall}
+use Rattle.rules.proofs.FirstTests.{both-passed, first-refused}
 use Rattle.rules.proofs.Fields.{bad-operator, after-operator}
 use Rattle.good.specs.Tested.{tested}
 use Rattle.engine.specs.Source.{ReadFrom}
-use Rattle.engine.proofs.FirstTests.{sized-good, pattern-refused}
 
 -- the bytes of one operator have it at their start
 pub lone-read : {s : List ℕ} {o : Operator} {next : ℕ} → loneOperator s ≡ OperatorForm.Decoded o next → ReadFrom s o
@@ -39,17 +39,17 @@ module _ (p : Pattern) where
   module _ (s : List ℕ) where
     -- 1 or 2
     pub apply-refused : {r : ℕ} → r ≡ tested p → r ≢ accepted → refusedBy r ≡ applyCall p s
-    unfolding applyCall
-    apply-refused e n = pattern-refused p refusedBy _ e n
+    unfolding tested applyCall
+    apply-refused e n = first-refused p refusedBy _ e n
 
     -- 3, 4 or 14
     pub apply-faulty : {r : ℕ} {f : Fault} → tested p ≡ accepted → loneOperator s ≡ OperatorForm.Bad f → r ≡ faultNumber f →
         refusedBy r ≡ applyCall p s
-    unfolding applyCall
-    apply-faulty e b q = let g = sized-good p e in rw (g .0, g .1, b, q)
+    unfolding tested applyCall
+    apply-faulty e b q = let g = both-passed p e in rw (g .0, g .1, b, q)
 
     -- what the operator answers
     pub apply-done : {l : Lent Applied} {o : Operator} {next : ℕ} → tested p ≡ accepted → loneOperator s ≡ OperatorForm.Decoded o next →
         l ≡ applied p (step o (facesOf s o) (complex p)) → l ≡ applyCall p s
-    unfolding applyCall
-    apply-done e d q = let g = sized-good p e in rw (g .0, g .1, d) q
+    unfolding tested applyCall
+    apply-done e d q = let g = both-passed p e in rw (g .0, g .1, d) q

@@ -14,10 +14,11 @@ use Rattle.rules.specs.Edits.{boundary}
 use Rattle.rules.specs.Form.{within}
 use Rattle.rules.specs.Chains.{isChain, boundaryLimit}
 use Rattle.rules.specs.Calls.{sizedChain, coefficients, boundaryCall}
+use Rattle.rules.proofs.FirstTests.{both-passed}
 use Rattle.rules.proofs.Limits.{chain-limit}
 use Rattle.good.specs.Tested.{tested}
 use Rattle.engine.specs.Boundaries.{product, matrixOf, Factors}
-use Rattle.engine.proofs.FirstTests.{sized-good, held, refusedBy, chains-short, chain-long, out-long, chains-refused, chains-sized}
+use Rattle.engine.proofs.FirstTests.{held, refusedBy, chains-short, chain-long, out-long, chains-refused, chains-sized}
 use Rattle.engine.proofs.Dimensions.{at-most-three, count-is, each-dimension}
 
 module _ (p : Pattern) (d : ℕ) (c out : List ℤ) where
@@ -35,8 +36,8 @@ module _ (p : Pattern) (d : ℕ) (c out : List ℤ) where
     module _ (t : tested p ≡ accepted) where
       -- 4
       pub boundary-form : within 1 3 d ≡ false → refusedBy out wrongForm ≡ boundaryCall p d c out
-      unfolding boundaryCall
-      boundary-form w = rw (chains-sized p c out l t, sized-good p t .1, w)
+      unfolding tested boundaryCall
+      boundary-form w = rw (chains-sized p c out l t, both-passed p t .1, w)
 
       module _ (w : within 1 3 d ≡ true) where
         here : countOf (p .counts) d ≡ complex p d .n
@@ -45,10 +46,10 @@ module _ (p : Pattern) (d : ℕ) (c out : List ℤ) where
         -- 16
         pub boundary-chain : isChain boundaryLimit (countOf (p .counts) d) (coefficients c) ≡ false →
             refusedBy out wrongChain ≡ boundaryCall p d c out
-        unfolding boundaryCall
+        unfolding tested boundaryCall
         boundary-chain e =
             let f : isChain boundaryLimit (complex p d .n) (coefficients c) ≡ false = rw (← here) e in
-            rw (chains-sized p c out l t, sized-good p t .1, w, f)
+            rw (chains-sized p c out l t, both-passed p t .1, w, f)
 
         module _ (e : isChain boundaryLimit (countOf (p .counts) d) (coefficients c) ≡ true) where
           -- what the product needs
@@ -74,7 +75,7 @@ module _ (p : Pattern) (d : ℕ) (c out : List ℤ) where
           -- none of them
           pub boundary-done : {after : List ℤ} → after ≡ product (matrixOf d (p .m1) (p .m2) (p .m3)) c 96 →
               refusedBy after accepted ≡ boundaryCall p d c out
-          unfolding boundaryCall
+          unfolding tested boundaryCall
           boundary-done q =
               let f : isChain boundaryLimit (complex p d .n) (coefficients c) ≡ true = rw (← here) e in
-              rw (chains-sized p c out l t, sized-good p t .1, w, f) (ap (λ l. refusedBy l accepted) (q ∙ product-is))
+              rw (chains-sized p c out l t, both-passed p t .1, w, f) (ap (λ l. refusedBy l accepted) (q ∙ product-is))

@@ -18,10 +18,11 @@ use Rattle.rules.specs.Complex.{Pattern, complex}
 use Rattle.rules.specs.Form.{within, loneOperator, facesOf, faultNumber}
 use Rattle.rules.specs.Chains.{isChain, carryLimit, carryStep}
 use Rattle.rules.specs.Calls.{Given, sizedChain, coefficients, carryCall}
+use Rattle.rules.proofs.FirstTests.{both-passed}
 use Rattle.rules.proofs.Limits.{chain-limit}
 use Rattle.good.specs.Tested.{tested}
 use Rattle.engine.specs.Carrying.{numberOf, rewritten, Writable, Carriable, carriedBy}
-use Rattle.engine.proofs.FirstTests.{sized-good, refusedBy, chains-short, chains-refused, chains-sized}
+use Rattle.engine.proofs.FirstTests.{refusedBy, chains-short, chains-refused, chains-sized}
 use Rattle.engine.proofs.Dimensions.{count-is}
 use Rattle.engine.proofs.Shapes.{formed}
 use Rattle.engine.proofs.Trials.{carry-refused, Edited, carry-accepted}
@@ -90,8 +91,8 @@ module _ (p : Pattern) (s : List ℕ) (d : ℕ) (c out : List ℤ) where
     module _ (t : tested p ≡ accepted) where
       -- 4, by the dimension
       pub carry-form : 3 < d → refusedBy out wrongForm ≡ carryCall p s d c out
-      unfolding carryCall
-      carry-form h = rw (chains-sized p c out l t, sized-good p t .1, le-leb 0 d (omega arith), lt-leb d 3 h)
+      unfolding tested carryCall
+      carry-form h = rw (chains-sized p c out l t, both-passed p t .1, le-leb 0 d (omega arith), lt-leb d 3 h)
 
       module _ (h : d ≤ 3) where
         offered : within 0 3 d ≡ true
@@ -99,11 +100,11 @@ module _ (p : Pattern) (s : List ℕ) (d : ℕ) (c out : List ℤ) where
 
         -- 3, 4 or 14
         pub carry-faulty : {r : ℕ} {f : Fault} → loneOperator s ≡ OperatorForm.Bad f → r ≡ faultNumber f → refusedBy out r ≡ carryCall p s d c out
-        unfolding carryCall
-        carry-faulty b q = rw (chains-sized p c out l t, sized-good p t .1, offered, b, q)
+        unfolding tested carryCall
+        carry-faulty b q = rw (chains-sized p c out l t, both-passed p t .1, offered, b, q)
 
         -- what carrying through the operator answers
         pub carry-done : {g : Given} {o : Operator} {next : ℕ} → loneOperator s ≡ OperatorForm.Decoded o next →
             g ≡ carriedBy p s o d c out → g ≡ carryCall p s d c out
-        unfolding carryCall carriedBy
-        carry-done e q = rw (chains-sized p c out l t, sized-good p t .1, offered, e) q
+        unfolding tested carryCall carriedBy
+        carry-done e q = rw (chains-sized p c out l t, both-passed p t .1, offered, e) q

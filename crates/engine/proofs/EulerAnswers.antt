@@ -7,17 +7,17 @@ use Rattle.rules.specs.Refusals.{accepted}
 use Rattle.rules.specs.Counts.{countOf}
 use Rattle.rules.specs.Complex.{Pattern, bare, euler}
 use Rattle.rules.specs.Calls.{eulerCall}
+use Rattle.rules.proofs.FirstTests.{both-passed, first-refused}
 use Rattle.good.specs.Tested.{tested}
-use Rattle.engine.proofs.FirstTests.{sized-good, pattern-refused}
 
 module _ (p : Pattern) where
   -- 1 or 2
   pub euler-refused : {r : ℕ} → r ≡ tested p → r ≢ accepted → record { number = pos 0; refusal = r } ≡ eulerCall p
-  unfolding eulerCall
-  euler-refused e n = pattern-refused p (λ r. record { number = pos 0; refusal = r }) _ e n
+  unfolding tested eulerCall
+  euler-refused e n = first-refused p (λ r. record { number = pos 0; refusal = r }) _ e n
 
   -- none of them
   pub euler-accepted : {z : ℤ} → tested p ≡ accepted → z ≡ euler (λ k. bare (countOf (p .counts) k)) →
       record { number = z; refusal = accepted } ≡ eulerCall p
-  unfolding eulerCall euler
-  euler-accepted e f = let g = sized-good p e in rw (g .0, g .1, f)
+  unfolding tested eulerCall euler
+  euler-accepted e f = let g = both-passed p e in rw (g .0, g .1, f)

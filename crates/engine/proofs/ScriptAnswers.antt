@@ -1,7 +1,7 @@
 -- What a call with a script answers, case by case: refused by a length or the pattern's test, by the script's form or base, or as its operators run.
-use mathlib.Core.Path.{_≡_, refl, sym, ap, _∙_}
+use mathlib.Core.Path.{_≡_, sym, ap, _∙_}
 use mathlib.Core.Logic.{_≢_}
-use mathlib.Core.Bool.{Bool, true, false, _&&_}
+use mathlib.Core.Bool.{Bool, true, false, and-true, and-false}
 use mathlib.Core.List.{List}
 use Prim.Native.Nat.{ℕ, zero, suc, _+_, _<_, _≤_}
 use native.Mathlib.Omega.{arith}
@@ -20,11 +20,12 @@ use Rattle.rules.specs.Complex.{Pattern, complex, countsOf, stored}
 use Rattle.rules.specs.Form.{operatorAt, byteAt, wordAt, countsAt, operatorsAt, scriptForm, faultNumber}
 use Rattle.rules.specs.Script.{Ended, ended, runFrom, sameBase, runScript}
 use Rattle.rules.specs.Calls.{Lent, lent, sized, runCall}
+use Rattle.rules.proofs.FirstTests.{both-passed, first-refused}
 use Rattle.rules.proofs.Fields.{bad-field, after-got, after-operator, word-says}
 use Rattle.rules.proofs.Stored.{Sized, stored-complex}
 use Rattle.good.specs.Tested.{tested}
 use Rattle.engine.specs.Running.{here, RunTo}
-use Rattle.engine.proofs.FirstTests.{sized-good, held, pattern-refused}
+use Rattle.engine.proofs.FirstTests.{held}
 
 module _ (s : List ℕ) where
   -- the number of a list of operators is the one it was read for
@@ -47,21 +48,13 @@ module _ (s : List ℕ) where
       (omega (arith, w .there), omega (arith, w .most, number-is (c .0) (c .0) 7 (c .2)))
 
 -- how a run is answered
-abbrev answered : Ended → Lent ScriptRun
+abbrev pub answered : Ended → Lent ScriptRun
 answered e = lent (record { counts = countsOf (e .now); ran = e .ran; refusal = e .refusal }) (stored (e .now))
 
 -- that is, by the pattern that is held
 held-answer : {q : Pattern} (ran refusal : ℕ) → Sized q →
     lent (record { counts = q .counts; ran = ran; refusal = refusal }) q ≡ answered (ended (complex q) ran refusal)
 held-answer {q} ran refusal S = ap (λ (x : Pattern). lent (record { counts = x .counts; ran = ran; refusal = refusal }) x) (sym (stored-complex q S))
-
-and-false : (a : Bool) → a && false ≡ false
-and-false true = refl
-and-false false = refl
-
-and-true : (a : Bool) → a && true ≡ a
-and-true true = refl
-and-true false = refl
 
 module _ (p : Pattern) (s : List ℕ) where
   -- a call refused by r runs nothing
@@ -76,14 +69,14 @@ module _ (p : Pattern) (s : List ℕ) where
   module _ (short : length s ≤ 24576) where
     -- 1 or 2, by the pattern
     pub run-refused : {r : ℕ} → r ≡ tested p → r ≢ accepted → idle r ≡ runCall p s
-    unfolding runCall
-    run-refused e n = rw (le-leb (length s) 24576 short, and-true (sized p)) (pattern-refused p idle _ e n)
+    unfolding tested runCall
+    run-refused e n = rw (le-leb (length s) 24576 short, and-true (sized p)) (first-refused p idle _ e n)
 
     module _ (four : length (p .counts .n) ≡ 4) (e : tested p ≡ accepted) where
       -- what the script answers on a good pattern
       as-script : answered (runScript s (complex p)) ≡ runCall p s
-      unfolding runCall
-      as-script = let g = sized-good p e in rw (g .0, g .1, le-leb (length s) 24576 short)
+      unfolding tested runCall
+      as-script = let g = both-passed p e in rw (g .0, g .1, le-leb (length s) 24576 short)
 
       sizes : Sized p
       sizes = held p four e .sized

@@ -4,10 +4,11 @@ use Prim.Native.Nat.{ℕ, _+_, _*_, _<_, _≤_}
 use native.Mathlib.Nat.{mul-le-mul-right}
 use native.Mathlib.Omega.{arith}
 use lib.IntN.{ℤ}
+use Rattle.maths.specs.Tables.{column}
 use Rattle.maths.specs.Buffers.{Put}
 use Rattle.maths.proofs.Buffers.{Pieces, pieces-none, pieces-more, pieces-all}
 use Rattle.rules.specs.Complex.{Chain}
-use Rattle.listing.specs.Lines.{column, PutWithin, ColumnRoom}
+use Rattle.listing.specs.Lines.{PutWithin, ColumnRoom}
 use Rattle.listing.specs.Pieces.{columnLines, LinesRoom}
 
 -- the lines of the first j of n columns, each of at most k bytes

@@ -1,17 +1,13 @@
 -- The lines of the printed result, one by one, and what putting one needs and leaves.
 use mathlib.Core.Path.{_≡_}
-use mathlib.Core.Bool.{cond}
-use mathlib.Core.List.{List, [], _++_}
+use mathlib.Core.List.{List, _++_}
 use Prim.Native.Nat.{ℕ, _+_, _<_, _≤_}
 use lib.IntN.{ℤ}
 use lib.ListN.{length}
-use Rattle.maths.specs.Tests.{isZero}
-use Rattle.maths.specs.Tables.{entries}
 use Rattle.maths.specs.Buffers.{Put}
 use Rattle.rules.specs.declared.counts.Counts.{Counts}
 use Rattle.rules.specs.Counts.{countOf}
-use Rattle.rules.specs.Complex.{Chain}
-use Rattle.rules.specs.Printed.{text, line, decimal, whole, signedFace}
+use Rattle.rules.specs.Printed.{text, line, decimal, whole}
 
 -- the first line of a run: how many operators ran, and the refusal
 unfoldable pub ranLine : ℕ → ℕ → List ℕ
@@ -25,14 +21,6 @@ cellsLine c =
 -- the Euler number
 unfoldable pub eulerLine : ℤ → List ℕ
 eulerLine z = text "euler " ++ (whole z ++ line)
-
--- column j of a stored matrix
-abbrev pub column : List ℤ → ℕ → Chain
-column m j i = entries m i j
-
--- face i of a list, whose entry is z: nothing where that is 0
-unfoldable pub face : ℕ → ℤ → List ℕ
-face i z = cond (isZero z) [] (signedFace i z)
 
 -- a text of at most k bytes was put at a place
 pub record PutWithin (k : ℕ) (before : List ℕ) (at : ℕ) (text : List ℕ) (next : ℕ) (after : List ℕ) : Type 0 where

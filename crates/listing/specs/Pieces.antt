@@ -5,11 +5,12 @@ use Prim.Native.Nat.{ℕ, _+_, _*_, _<_, _≤_}
 use lib.IntN.{ℤ, natAbs}
 use lib.ListN.{length}
 use Rattle.maths.specs.Sums.{join}
+use Rattle.maths.specs.Tables.{column}
 use Rattle.rules.specs.declared.counts.Counts.{Counts}
 use Rattle.rules.specs.Counts.{countOf}
 use Rattle.rules.specs.Complex.{Chain}
 use Rattle.rules.specs.Printed.{seamLine}
-use Rattle.listing.specs.Lines.{ranLine, cellsLine, eulerLine, column}
+use Rattle.listing.specs.Lines.{ranLine, cellsLine, eulerLine}
 
 -- a line for each of the first n columns of a stored matrix
 unfoldable pub columnLines : (ℕ → Chain → List ℕ) → ℕ → List ℤ → List ℕ

@@ -3,10 +3,12 @@ ghost use mathlib.Core.List.{[], _∷_};
 ghost use Prim.Native.Nat.{_+_, _≤_};
 ghost use lib.IntN.{natAbs};
 ghost use lib.ListN.{length};
+ghost use Rattle.maths.specs.Tables.{column};
 ghost use Rattle.maths.specs.Buffers.{Put};
 ghost use Rattle.rules.specs.Mesh.{eachFace};
 ghost use Rattle.rules.specs.Printed.{printedMesh, seamLine, signedFace, cellLine};
-ghost use Rattle.listing.specs.Lines.{ranLine, cellsLine, eulerLine, column, face, PutWithin, NumberRoom, ColumnRoom};
+ghost use Rattle.rules.proofs.FaceTexts.{oneFace};
+ghost use Rattle.listing.specs.Lines.{ranLine, cellsLine, eulerLine, PutWithin, NumberRoom, ColumnRoom};
 use crate::numbers::put_field;
 use crate::numbers::put_labelled;
 use crate::numbers::put_whole;
@@ -72,7 +74,7 @@ pub fn line_seam(out: &mut [u8], at: usize, j: usize, m: &[i8]) -> usize
 // Face i, whose entry is z: nothing where that is 0.
 fn put_face(out: &mut [u8], at: usize, i: u8, z: i8) -> usize
     requires { ⌜ at + 6 ≤ length (now out) ⌝ }
-    ensures { λ next. ⌜ Put (now (out .entry)) at (face i z) next (now (out .exit)) ⌝ }
+    ensures { λ next. ⌜ Put (now (out .entry)) at (oneFace signedFace i z) next (now (out .exit)) ⌝ }
 {
     if z < 0 {
         return put_field(out, at, b" -", i);

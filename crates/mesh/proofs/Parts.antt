@@ -3,7 +3,6 @@ use mathlib.Core.Path.{_≡_, refl, sym, _∙_}
 use mathlib.Core.Logic.{_≢_}
 use mathlib.Core.List.{List}
 use Prim.Native.Nat.{ℕ, _+_, _-_, _<_}
-use native.Mathlib.Omega.{arith}
 use lib.IntN.{ℤ}
 use Rattle.maths.specs.Repeat.{repeat}
 use Rattle.maths.proofs.Repeat.{ended, turned, stopped}
@@ -14,29 +13,24 @@ use Rattle.rules.specs.declared.form.Field.{Field}
 use Rattle.rules.specs.declared.form.OperatorForm.{OperatorForm}
 use Rattle.rules.specs.declared.operator.Operator.{Operator}
 use Rattle.rules.specs.Refusals.{accepted}
-use Rattle.rules.specs.Complex.{Pattern, complex}
+use Rattle.rules.specs.Complex.{Pattern, pattern, complex}
 use Rattle.rules.specs.Operators.{makeStep, step}
 use Rattle.rules.specs.Form.{faultNumber, byteAt, makeAt, madeOf}
 use Rattle.rules.specs.Mesh.{Reading, faulty, refused, Place, readCell, readSection}
 use Rattle.rules.specs.Calls.{lent, applied}
+use Rattle.rules.proofs.Numbers.{fault-numbered}
 use Rattle.rules.proofs.Decoded.{made}
-use Rattle.rules.specs.Complex.{pattern}
 use Rattle.operators.specs.Held.{Held, MakeForm}
 use Rattle.operators.proofs.Kept.{applied-held}
 use Rattle.operators.proofs.Answered.{answer-accepted, answer-refused}
-use Rattle.mesh.specs.Reading.{Readable, Ends, Went}
-
-pub fault-some : (f : Fault) → faultNumber f ≢ accepted
-fault-some (Fault.Ends at) = omega arith
-fault-some (Fault.Wrong at) = omega arith
-fault-some (Fault.Left at) = omega arith
+use Rattle.mesh.specs.Reading.{Readable, Went}
 
 -- a part that is a fault of the form
 pub faulted : {part : (Place → Reading) → Reading} {r : MeshRead} {q : Pattern} (f : Fault)
     → Held q → r .refusal ≡ faultNumber f → ((go : Place → Reading) → part go ≡ faulty f) → Went part r q
 faulted f H e is = record {
   held = H;
-  goes = λ a. absurd (fault-some f (sym e ∙ a));
+  goes = λ a. absurd (fault-numbered f (sym e ∙ a));
   ends = λ _. record { last = faulty f; is = is; number = sym e };
 }
 

@@ -1,31 +1,26 @@
 -- The whole reading: how it begins, what a section adds to it, and what the call answers.
 use mathlib.Core.Path.{_≡_, refl, sym, ap, _∙_}
 use mathlib.Core.Logic.{_≢_}
-use mathlib.Core.Bool.{true, false, _&&_}
+use mathlib.Core.Bool.{true, false}
 use mathlib.Core.List.{List, [], _∷_}
 use Prim.Native.Nat.{ℕ, zero, suc, _+_, _≤_}
 use native.Mathlib.Omega.{arith}
-use borrow.Author.Tests.{eqb-true}
-use lib.Dec.{eqb}
 use lib.IntN.{ℤ}
-use lib.ListN.{length}
-use Rattle.maths.proofs.Cases.{and-left, and-right}
 use Rattle.rules.specs.declared.counts.Counts.{Counts}
 use Rattle.rules.specs.declared.answers.MeshRead.{MeshRead}
 use Rattle.rules.specs.declared.form.Fault.{Fault}
 use Rattle.rules.specs.declared.form.Field.{Field}
 use Rattle.rules.specs.Refusals.{accepted, wrongLength}
-use Rattle.rules.specs.Complex.{Pattern, Complex, complex, countsOf, empty, stored}
+use Rattle.rules.specs.Complex.{Pattern, pattern, Complex, complex, countsOf, empty, stored}
 use Rattle.rules.specs.Form.{faultNumber, byteAt}
 use Rattle.rules.specs.Mesh.{Reading, faulty, refused, taken, Place, corners, readSection, readMesh, afterReading}
 use Rattle.rules.specs.Calls.{lent, sized, noMesh, readCall}
 use Rattle.rules.proofs.Fields.{byte-says}
+use Rattle.rules.proofs.Numbers.{fault-numbered}
 use Rattle.rules.proofs.ReadGood.{corners-good}
-use Rattle.rules.proofs.Stored.{complex-stored, stored-complex}
-use Rattle.rules.specs.Complex.{pattern}
+use Rattle.rules.proofs.Stored.{lengths, complex-stored, stored-complex}
 use Rattle.operators.proofs.Kept.{stored-held}
 use Rattle.mesh.specs.Reading.{Long, Zeros, zeros, refusalOf, Went, from, Sofar, Next}
-use Rattle.mesh.proofs.Parts.{fault-some}
 
 module _ (s : List ℕ) where
   -- the corner count
@@ -50,7 +45,7 @@ module _ (s : List ℕ) where
   pub corners-refused : {f : Fault} {r : MeshRead} {number : ℕ} → byteAt s 0 0 96 ≡ Field.Bad f → number ≡ faultNumber f → r ≡ noMesh number → Sofar s 1 r (zeros (r .counts))
   corners-refused {f} e q a = rw a (record {
     held = stored-held (corners-good 0 (omega arith));
-    goes = λ z. absurd (fault-some f (sym q ∙ z));
+    goes = λ z. absurd (fault-numbered f (sym q ∙ z));
     ends = λ _. ap refusalOf (corners-faulty e) ∙ sym q;
   })
 
@@ -77,15 +72,7 @@ module _ (s : List ℕ) where
     next-refused n = record { held = N .sofar .held; goes = λ e. absurd (n e); ends = N .sofar .ends }
 
 pub sized-long : (c : Counts) (m1 m2 m3 : List ℤ) → sized (pattern c m1 m2 m3) ≡ true → Long m1 m2 m3
-sized-long c m1 m2 m3 e =
-    let one = eqb (length m1) 9216 in
-    let two = eqb (length m2) 9216 in
-    let both = and-left (one && two) (eqb (length m3) 9216) e in
-    record {
-      long1 = eqb-true (length m1) 9216 (and-left one two both);
-      long2 = eqb-true (length m2) 9216 (and-right one two both);
-      long3 = eqb-true (length m3) 9216 (and-right (one && two) (eqb (length m3) 9216) e);
-    }
+sized-long c m1 m2 m3 e = let l = lengths (pattern c m1 m2 m3) e in record { long1 = l .0; long2 = l .1; long3 = l .2 }
 
 -- what the call answers
 module _ (s : List ℕ) (p : Pattern) where

@@ -1,24 +1,16 @@
 -- The texts of a mesh by stored matrix, and what it is to put a text into a buffer.
 use mathlib.Core.Path.{_≡_}
-use mathlib.Core.Bool.{not, cond}
-use mathlib.Core.List.{List, [], _∷_, _++_}
-use Prim.Native.Nat.{ℕ, _+_, _<_, _≤_}
+use mathlib.Core.Bool.{not}
+use mathlib.Core.List.{List, [], _∷_}
+use Prim.Native.Nat.{ℕ, _<_, _≤_}
 use lib.IntN.{ℤ}
-use lib.ListN.{length, take, drop}
+use lib.ListN.{length}
 use Rattle.maths.specs.Tests.{isZero, count}
 use Rattle.maths.specs.Sums.{join}
-use Rattle.maths.specs.Tables.{entries}
+use Rattle.maths.specs.Tables.{column}
 use Rattle.maths.specs.Buffers.{Fits}
 use Rattle.rules.specs.Complex.{Pattern, Chain, complex}
 use Rattle.rules.specs.Mesh.{tailOf, headOf, pair, eachFace, writeCell, writeMesh}
-
--- column j of a stored matrix
-abbrev pub column : List ℤ → ℕ → Chain
-column m j i = entries m i j
-
--- face i of a list, whose entry is z: nothing where that is 0
-unfoldable pub face : ℕ → ℤ → List ℕ
-face i z = cond (isZero z) [] (pair i z)
 
 -- how many faces a cell has
 abbrev pub faceCount : Chain → ℕ

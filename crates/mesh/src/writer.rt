@@ -5,14 +5,15 @@ ghost use mathlib.Core.List.{[], _∷_};
 ghost use lib.IntN.{pos};
 ghost use lib.ListN.{length};
 ghost use Rattle.maths.specs.Tests.{eqZ};
-ghost use Rattle.rules.specs.Complex.{complex};
+ghost use Rattle.maths.specs.Tables.{column};
+ghost use Rattle.maths.specs.Buffers.{Put, Fits};
+ghost use Rattle.rules.specs.Complex.{pattern, complex};
 ghost use Rattle.rules.specs.Mesh.{pair, eachFace, writeCell, writeMesh};
 ghost use Rattle.rules.specs.Calls.{writeCall};
+ghost use Rattle.rules.proofs.FaceTexts.{oneFace};
 ghost use Rattle.grid.specs.Grid.{Line};
-ghost use Rattle.mesh.specs.Writing.{column, face, seamText, listText, sectionText};
-ghost use Rattle.rules.specs.Complex.{pattern};
+ghost use Rattle.mesh.specs.Writing.{seamText, listText, sectionText};
 ghost use Rattle.mesh.specs.Writing.{ColumnFits, Columns, ColumnsFit, Writable, MeshFits};
-ghost use Rattle.maths.specs.Buffers.{Put, Fits};
 use buffer::put;
 use buffer::put_two;
 use good::refusal_of_pattern;
@@ -70,8 +71,8 @@ fn sign_byte(z: i8) -> u8
 
 // Face i with the entry z, nothing where z is 0, at a place, and the place after it.
 fn put_face(out: &mut [u8], at: usize, i: u8, z: i8) -> usize
-    requires { ⌜ Fits (now out) at (face i z) ⌝ }
-    ensures { λ next. ⌜ Put (now (out .entry)) at (face i z) next (now (out .exit)) ⌝ }
+    requires { ⌜ Fits (now out) at (oneFace pair i z) ⌝ }
+    ensures { λ next. ⌜ Put (now (out .entry)) at (oneFace pair i z) next (now (out .exit)) ⌝ }
 {
     if is_zero8(z) {
         return at;

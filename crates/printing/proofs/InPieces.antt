@@ -15,12 +15,11 @@ use Rattle.rules.specs.Script.{Ended, ended}
 use Rattle.rules.specs.Calls.{Lent, lent}
 use Rattle.rules.specs.Printed.{cellLines, printedMesh, printedRun, printed}
 use Rattle.rules.proofs.Stored.{complex-stored}
-use Rattle.rules.proofs.ReadGood.{read-good}
+use Rattle.rules.proofs.ReadGood.{read-good, mesh-each}
 use Rattle.listing.specs.Pieces.{columnLines, runText}
 use Rattle.listing.proofs.Printed.{printed-run, printed-listing}
 use Rattle.printing.specs.declared.run.InputRun.{InputRun}
 use Rattle.printing.specs.Input.{noRun, endOf, ranTo, runInput, headText, panelText, blockText}
-use Rattle.printing.proofs.Refusing.{mesh-each}
 use Rattle.printing.proofs.Running.{end-good}
 
 -- the three pieces of a run, one after the other

@@ -1,5 +1,4 @@
--- What a run finds: by reading, by running, and how large it is
-mod Refusing
+-- What a run answers, and how large its numbers are
 mod Running
 mod Sizes
 mod Rooms

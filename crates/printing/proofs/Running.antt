@@ -11,7 +11,7 @@ use Rattle.rules.specs.declared.answers.MeshRead.{MeshRead}
 use Rattle.rules.specs.declared.answers.ScriptRun.{ScriptRun}
 use Rattle.rules.specs.declared.answers.EulerNumber.{EulerNumber}
 use Rattle.rules.specs.Refusals.{accepted}
-use Rattle.rules.specs.Complex.{Pattern, Complex, pattern, countsOf, stored, euler}
+use Rattle.rules.specs.Complex.{Pattern, Complex, pattern, stored, euler}
 use Rattle.rules.specs.Good.{Good, isGood}
 use Rattle.rules.specs.Script.{Ended}
 use Rattle.rules.specs.Calls.{Lent, lent, sized, sizedScript, readCall, runCall, eulerCall}
@@ -19,11 +19,11 @@ use Rattle.rules.proofs.Branches.{good-each}
 use Rattle.rules.proofs.Stored.{complex-stored, sized-is, stored-sized}
 use Rattle.rules.proofs.Tested.{good-is}
 use Rattle.rules.proofs.Runs.{script-kept}
-use Rattle.rules.proofs.ReadGood.{read-good}
+use Rattle.rules.proofs.ReadGood.{read-good, mesh-each}
 use Rattle.rules.proofs.WrittenRead.{written-read}
+use Rattle.engine.proofs.ScriptAnswers.{answered}
 use Rattle.printing.specs.declared.run.InputRun.{InputRun}
 use Rattle.printing.specs.Input.{endOf, ranTo, runInput}
-use Rattle.printing.proofs.Refusing.{mesh-each}
 
 -- the pattern that a call leaves, with its counts
 abbrev meshHeld : Lent MeshRead → Pattern
@@ -42,10 +42,6 @@ abbrev hasRun : Lent ScriptRun → EulerNumber → Lent InputRun
 hasRun l z =
     let r = l .answer in
     lent (record { mesh = accepted; ran = r .ran; refusal = r .refusal; counts = r .counts; euler = z .number }) (scriptHeld l)
-
--- how a script that has ended is answered
-abbrev answered : Ended → Lent ScriptRun
-answered e = lent (record { counts = countsOf (e .now); ran = e .ran; refusal = e .refusal }) (stored (e .now))
 
 -- a mesh that was taken: a good pattern is stored, and what is answered is what the script after it leads to
 pub record Taken (s : List ℕ) (l : Lent MeshRead) (m : Lent InputRun) : Type 0 where

@@ -5,9 +5,10 @@ pub mod Changes
 pub mod Frame
 pub mod Judged
 pub mod Seams
--- Branches of the definitions, and the numbers of refusals
+-- Branches of the definitions, the numbers of refusals, and the tests that come first
 pub mod Branches
 pub mod Numbers
+pub mod FirstTests
 -- What bytes in form say
 pub mod Fields
 pub mod Listed
@@ -47,6 +48,7 @@ pub mod Undo
 -- Reading and writing undo each other
 pub mod ReadGood
 pub mod Texts
+pub mod FaceTexts
 pub mod ListsRead
 pub mod CellsRead
 pub mod UpTo

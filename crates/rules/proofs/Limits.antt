@@ -70,7 +70,7 @@ face-length : (v : Chain) → length (eachFace pair v) ≤ 192
 unfolding eachFace
 face-length v = join-most 96 2 _ (λ i h. cond-each (λ (l : List ℕ). length l ≤ 2) (isZero (v i)) (λ e. omega arith) (λ e. omega arith))
 
-cell-length : (k : ℕ) (v : Chain) → length (writeCell k v) ≤ 193
+pub cell-length : (k : ℕ) (v : Chain) → length (writeCell k v) ≤ 193
 unfolding writeCell
 cell-length k v = cond-each (λ (l : List ℕ). length l ≤ 193) (eqb k 1) (λ e. omega arith) (λ e. omega (arith, face-length v))
 

@@ -21,7 +21,7 @@ use Rattle.rules.proofs.Branches.{cond-each, refused-edited, refused-re
 use Rattle.rules.proofs.Sides.{lower, higher}
 
 -- a refusal's number is not 0
-abbrev Numbered : Outcome → Type 0
+abbrev pub Numbered : Outcome → Type 0
 Numbered o = (r : ℕ) → o ≡ refused r → r ≢ accepted
 
 by-number : {q : ℕ} → 0 < q → Numbered (refused q)

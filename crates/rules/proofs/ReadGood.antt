@@ -1,26 +1,29 @@
--- What the mesh reader accepts is good.
+-- What the mesh reader accepts is good, and what it refuses has a number that is not 0.
 use mathlib.Core.Path.{_≡_, refl}
+use mathlib.Core.Logic.{_≢_}
 use mathlib.Core.List.{List}
 use Prim.Native.Nat.{ℕ, zero, suc, _<_, _≤_}
 use native.Mathlib.Omega.{arith}
 use lib.IntN.{pos}
 use Rattle.maths.specs.Repeat.{repeat}
 use Rattle.maths.proofs.Dots.{dot-0-l}
+use Rattle.rules.specs.Refusals.{accepted}
 use Rattle.rules.specs.Complex.{Complex}
 use Rattle.rules.specs.Good.{Good}
 use Rattle.rules.specs.Operators.{step}
-use Rattle.rules.specs.Form.{byteAt, makeAt, facesOf}
-use Rattle.rules.specs.Mesh.{Reading, faulty, refused, taken, Place, corners, readCell, readSection, readMesh}
+use Rattle.rules.specs.Form.{byteAt, makeAt, facesOf, faultNumber}
+use Rattle.rules.specs.Mesh.{Reading, faulty, refused, taken, Place, corners, readCell, readSection, readMesh, afterReading}
 use Rattle.rules.proofs.Fields.{byte-says}
-use Rattle.rules.proofs.Branches.{after-each, operator-each, step-each}
+use Rattle.rules.proofs.Branches.{after-each, operator-each, outcome-each}
+use Rattle.rules.proofs.Numbers.{step-numbered, fault-numbered}
 use Rattle.rules.proofs.Decoded.{made}
 use Rattle.rules.proofs.Steps.{edit-kept, removal-kept}
 
--- a pattern that was taken is good
-abbrev IfTaken : Reading → Type 0
-IfTaken (faulty f) = Unit {0}
-IfTaken (refused r) = Unit {0}
-IfTaken (taken X used) = Good X
+-- a pattern that was taken is good, and a refusal by meaning is not 0
+abbrev Sound : Reading → Type 0
+Sound (faulty f) = Unit {0}
+Sound (refused r) = r ≢ accepted
+Sound (taken X used) = Good X
 
 pub corners-good : (n : ℕ) → n ≤ 96 → Good (corners n)
 corners-good n h = record {
@@ -47,33 +50,46 @@ corners-good n h = record {
     top zero l = absurd (omega arith)
     top (suc k) l = refl
 
--- .. if what was read before is
+-- it is sound, if the pattern read before is good
 abbrev FromGood : (Place → Reading) → Type 0
-FromGood go = (x : Place) → Good (x .0) → IfTaken (go x)
+FromGood go = (x : Place) → Good (x .0) → Sound (go x)
 
 module _ (s : List ℕ) where
   -- cells of dimension k, and what follows them
-  cells-good : (k : ℕ) → k ≤ 3 → (go : Place → Reading) → FromGood go → (n : ℕ) → FromGood (repeat (readCell s k) go n)
+  cells-sound : (k : ℕ) → k ≤ 3 → (go : Place → Reading) → FromGood go → (n : ℕ) → FromGood (repeat (readCell s k) go n)
   unfolding repeat readCell
-  cells-good k d go then zero x G = then x G
-  cells-good k d go then (suc n) x G =
-      operator-each IfTaken (makeAt s k (x .1)) (λ f. tt) λ o next e.
+  cells-sound k d go then zero x G = then x G
+  cells-sound k d go then (suc n) x G =
+      operator-each Sound (makeAt s k (x .1)) (λ f. tt) λ o next e.
       let F = made s (x .1) k d e .1 in
-      step-each IfTaken (step o (facesOf s o) (x .0)) (λ r. tt)
-      (λ S q. cells-good k d go then n _ (edit-kept G s o F q .kept .good))
-      (λ Y q. cells-good k d go then n _ (removal-kept G s o F q .good))
+      outcome-each Sound (step o (facesOf s o) (x .0)) (step-numbered (facesOf s o) (x .0) o)
+      (λ S q. cells-sound k d go then n _ (edit-kept G s o F q .kept .good))
+      (λ Y q. cells-sound k d go then n _ (removal-kept G s o F q .good))
 
-  section-good : (k : ℕ) → k ≤ 3 → (go : Place → Reading) → FromGood go → FromGood (λ x. readSection s k x go)
+  section-sound : (k : ℕ) → k ≤ 3 → (go : Place → Reading) → FromGood go → FromGood (λ x. readSection s k x go)
   unfolding readSection
-  section-good k d go then x G = after-each IfTaken (byteAt s (x .1) 0 96) (λ f. tt) (λ n e. cells-good k d go then n _ G)
+  section-sound k d go then x G = after-each Sound (byteAt s (x .1) 0 96) (λ f. tt) (λ n e. cells-sound k d go then n _ G)
 
-  read-each : IfTaken (readMesh s)
+  read-sound : Sound (readMesh s)
   unfolding readMesh
-  read-each =
-      after-each IfTaken (byteAt s 0 0 96) (λ f. tt) λ n e.
-      section-good 1 (omega arith) _ (λ x G.
-      section-good 2 (omega arith) _ (λ y H.
-      section-good 3 (omega arith) _ (λ z I. I) y H) x G) _ (corners-good n (byte-says s 0 0 96 n e .most))
+  read-sound =
+      after-each Sound (byteAt s 0 0 96) (λ f. tt) λ n e.
+      section-sound 1 (omega arith) _ (λ x G.
+      section-sound 2 (omega arith) _ (λ y H.
+      section-sound 3 (omega arith) _ (λ z I. I) y H) x G) _ (corners-good n (byte-says s 0 0 96 n e .most))
 
   pub read-good : (X : Complex) (used : ℕ) → readMesh s ≡ taken X used → Good X
-  read-good X used e = rw e at read-each
+  read-good X used e = rw e at read-sound
+
+-- two things that follow the reading of a mesh, case by case
+module _ {A B : Type 0} (P : A → B → Type 0) {bad : ℕ → A} {go : Complex → ℕ → A} {bad' : ℕ → B} {go' : Complex → ℕ → B} where
+  sound-each : (x : Reading) → Sound x → ((r : ℕ) → r ≢ accepted → P (bad r) (bad' r)) →
+      ((X : Complex) (used : ℕ) → x ≡ taken X used → P (go X used) (go' X used)) → P (afterReading x bad go) (afterReading x bad' go')
+  sound-each (faulty f) n h k = h (faultNumber f) (fault-numbered f)
+  sound-each (refused r) n h k = h r n
+  sound-each (taken X used) n h k = k X used refl
+
+  pub mesh-each : (s : List ℕ) → ((r : ℕ) → r ≢ accepted → P (bad r) (bad' r)) →
+      ((X : Complex) (used : ℕ) → readMesh s ≡ taken X used → P (go X used) (go' X used)) →
+      P (afterReading (readMesh s) bad go) (afterReading (readMesh s) bad' go')
+  mesh-each s = sound-each (readMesh s) (read-sound s)

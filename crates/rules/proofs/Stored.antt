@@ -1,15 +1,16 @@
 -- Stored and abstract agree: `complex` and `stored` undo each other.
 use mathlib.Core.Path.{_≡_, refl, sym, _∙_, ap, fun-ext}
-use mathlib.Core.Bool.{true}
+use mathlib.Core.Bool.{true, _&&_}
 use mathlib.Core.List.{List, [], _∷_}
 use Prim.Native.Nat.{ℕ, zero, suc, _<_, _≤_}
 use native.Mathlib.Omega.{arith}
-use borrow.Author.Tests.{eq-eqb}
+use borrow.Author.Tests.{eq-eqb, eqb-true}
+use lib.Dec.{eqb}
 use lib.IntN.{pos}
 use lib.ListN.{length, getD}
 use Rattle.maths.specs.Tables.{Entries, entries, tab}
 use Rattle.maths.proofs.Tables.{clip-keeps, entries-tab, tab-entries, length-tab}
-use Rattle.maths.proofs.Cases.{lt-or, and-both}
+use Rattle.maths.proofs.Cases.{lt-or, and-left, and-right, and-both}
 use Rattle.rules.specs.Complex.{Pattern, Complex, complex, stored}
 use Rattle.rules.specs.Good.{Good}
 use Rattle.rules.specs.Calls.{sized}
@@ -46,6 +47,13 @@ pub record Sized (p : Pattern) : Type 0 where
 -- such are the lists that are lent, and those of every complex
 pub sized-is : {p : Pattern} → Sized p → sized p ≡ true
 sized-is {p} S = and-both (and-both (eq-eqb (length (p .m1)) 9216 (S .size1)) (eq-eqb (length (p .m2)) 9216 (S .size2))) (eq-eqb (length (p .m3)) 9216 (S .size3))
+
+pub lengths : (p : Pattern) → sized p ≡ true → (length (p .m1) ≡ 9216) × (length (p .m2) ≡ 9216) × (length (p .m3) ≡ 9216)
+lengths p e =
+    let one = eqb (length (p .m1)) 9216 in
+    let two = eqb (length (p .m2)) 9216 in
+    let both = and-left (one && two) _ e in
+    (eqb-true _ _ (and-left one two both), eqb-true _ _ (and-right one two both), eqb-true _ _ (and-right (one && two) _ e))
 
 pub stored-sized : (X : Complex) → Sized (stored X)
 stored-sized X = record { four = refl; size1 = length-tab (X 1 .d); size2 = length-tab (X 2 .d); size3 = length-tab (X 3 .d) }

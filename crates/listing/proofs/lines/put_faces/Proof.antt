@@ -2,14 +2,16 @@
 use Prim.Native.Nat.{_-_}
 use native.Mathlib.Omega.{arith}
 use Rattle.maths.specs.Tables.{entries}
+use Rattle.maths.proofs.Sizes.{entry-read}
 use Rattle.maths.proofs.Buffers.{Pieces, pieces-none, pieces-more, pieces-all}
-use Rattle.listing.specs.Lines.{face}
-use Rattle.listing.proofs.Faces.{entry-read, faces-are, faces-most}
+use Rattle.rules.specs.Printed.{signedFace}
+use Rattle.rules.proofs.FaceTexts.{oneFace, faces-are}
+use Rattle.listing.proofs.Faces.{faces-most}
 use Rattle.listing.proofs.lines.put_faces.Statement.{statement}
 use Rattle.listing.proofs.lines.put_faces.Tie as tie
 
 abbrev Inv-loop : tie.InvT-loop
-Inv-loop out₀ at j m s next₀ i₀ out next i = Pieces (λ i. face i (entries m i j)) 96 i out₀ at next out
+Inv-loop out₀ at j m s next₀ i₀ out next i = Pieces (λ i. oneFace signedFace i (entries m i j)) 96 i out₀ at next out
 
 abbrev μ-loop : tie.MeasureT-loop
 μ-loop out₀ at j m s next₀ i₀ out next i = 96 - i

@@ -4,7 +4,7 @@ use native.Mathlib.Omega.{arith}
 use lib.ListN.{length}
 use borrow.Author.Needs.{needs}
 use Rattle.rules.specs.Complex.{Chain}
-use Rattle.mesh.specs.Writing.{column}
+use Rattle.maths.specs.Tables.{column}
 use Rattle.mesh.proofs.CellTexts.{faces-length, faces-most, cell-seam, cell-list}
 use Rattle.mesh.proofs.writer.cell_length.Statement.{statement}
 use Rattle.mesh.proofs.writer.cell_length.Tie as tie

@@ -5,24 +5,24 @@ use native.Mathlib.Omega.{arith}
 use lib.ListN.{length}
 use mir.Facts.{toZ-ofZ}
 use borrow.Author.Needs.{needs}
-use Rattle.mesh.specs.Writing.{face}
 use Rattle.maths.proofs.Buffers.{no-piece}
-use Rattle.mesh.proofs.CellTexts.{no-face, one-face}
+use Rattle.rules.specs.Mesh.{pair}
+use Rattle.rules.proofs.FaceTexts.{oneFace, no-face, some-face}
 use Rattle.mesh.proofs.writer.put_face.Statement.{statement}
 use Rattle.mesh.proofs.writer.put_face.Tie as tie
 
 returns : tie.Need-returns
 returns c =
     let start = c .before .before .before in
-    rw (← toZ-ofZ (start .fits .z), no-face (start .args .i) _ (sym (c .before .is-zero8 .ensures) ∙ c .if1 .taken)) (no-piece _ _)
+    rw (← toZ-ofZ (start .fits .z), no-face pair (start .args .i) _ (sym (c .before .is-zero8 .ensures) ∙ c .if1 .taken)) (no-piece _ _)
 
 -- the two bytes are the text
 two : (c : tie.After-sign-byte) →
-    let start = c .before .before .before .before .before in face (start .args .i) (start .args .z) ≡ start .args .i ∷ c .sign-byte .result ∷ []
+    let start = c .before .before .before .before .before in oneFace pair (start .args .i) (start .args .z) ≡ start .args .i ∷ c .sign-byte .result ∷ []
 two c =
     let test = c .before .before in
     let start = test .before .before .before in
-    rw (← toZ-ofZ (start .fits .z), c .sign-byte .ensures) (one-face (start .args .i) _ (sym (test .before .is-zero8 .ensures) ∙ test .if1 .left))
+    rw (← toZ-ofZ (start .fits .z), c .sign-byte .ensures) (some-face pair (start .args .i) _ (sym (test .before .is-zero8 .ensures) ∙ test .if1 .left))
 
 pub put-face-spec : {M : Type 1} → statement M
 put-face-spec =

@@ -1,15 +1,16 @@
 -- `mesh::writer::put_faces` meets its contract: the faces below i are put.
 use Prim.Native.Nat.{_-_}
 use native.Mathlib.Omega.{arith}
-use Rattle.maths.specs.Tables.{entries}
-use Rattle.mesh.specs.Writing.{column, face}
+use Rattle.maths.specs.Tables.{column, entries}
+use Rattle.maths.proofs.Sizes.{entry-read}
 use Rattle.maths.proofs.Buffers.{Pieces, pieces-none, pieces-fit, pieces-more, pieces-all}
-use Rattle.mesh.proofs.CellTexts.{entry-read, faces-are}
+use Rattle.rules.specs.Mesh.{pair}
+use Rattle.rules.proofs.FaceTexts.{oneFace, faces-are}
 use Rattle.mesh.proofs.writer.put_faces.Statement.{statement}
 use Rattle.mesh.proofs.writer.put_faces.Tie as tie
 
 abbrev Inv-loop : tie.InvT-loop
-Inv-loop m j out₀ at s next₀ i₀ out next i = Pieces (λ i. face i (entries m i j)) 96 i out₀ at next out
+Inv-loop m j out₀ at s next₀ i₀ out next i = Pieces (λ i. oneFace pair i (entries m i j)) 96 i out₀ at next out
 
 abbrev μ-loop : tie.MeasureT-loop
 μ-loop m j out₀ at s next₀ i₀ out next i = 96 - i
@@ -19,7 +20,7 @@ put-face-requires c κs =
     let loop = c .before .before .before in
     let start = loop .before .before in
     let e = entry-read (start .args .m .now) (loop .loop .i) (start .args .j) (omega arith) (start .pre .inside) (c .put-face-arg2 .given) in
-    rw e (pieces-fit (loop .loop .inv) (rw (faces-are (column (start .args .m .now) (start .args .j))) (start .pre .room)) (omega arith))
+    rw e (pieces-fit (loop .loop .inv) (rw (faces-are pair (column (start .args .m .now) (start .args .j))) (start .pre .room)) (omega arith))
 
 loop-again : tie.Need-loop-again Inv-loop μ-loop
 loop-again c =

@@ -1,7 +1,7 @@
 -- `mesh::writer::put_list` meets its contract: the faces are put after the place of the count, which is half of how long they are.
 use native.Mathlib.Omega.{arith}
 use borrow.Author.Needs.{needs}
-use Rattle.mesh.specs.Writing.{column}
+use Rattle.maths.specs.Tables.{column}
 use Rattle.maths.proofs.Buffers.{byte-before}
 use Rattle.mesh.proofs.CellTexts.{faces-between, faces-most}
 use Rattle.mesh.proofs.writer.put_list.Statement.{statement}

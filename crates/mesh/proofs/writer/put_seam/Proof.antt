@@ -2,7 +2,7 @@
 use native.Mathlib.Omega.{arith}
 use lib.IntN.{pos, negsuc}
 use borrow.Author.Needs.{needs}
-use Rattle.mesh.specs.Writing.{column}
+use Rattle.maths.specs.Tables.{column}
 use Rattle.mesh.proofs.CellTexts.{face-most}
 use Rattle.mesh.proofs.writer.put_seam.Statement.{statement}
 use Rattle.mesh.proofs.writer.put_seam.Tie as tie

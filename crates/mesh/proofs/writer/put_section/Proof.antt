@@ -2,7 +2,8 @@
 use Prim.Native.Nat.{_-_}
 use native.Mathlib.Omega.{arith}
 use Rattle.rules.specs.Mesh.{writeCell}
-use Rattle.mesh.specs.Writing.{column, cells}
+use Rattle.maths.specs.Tables.{column}
+use Rattle.mesh.specs.Writing.{cells}
 use Rattle.maths.proofs.Buffers.{two-pieces, Pieces, pieces-none, pieces-fit, pieces-more, pieces-all}
 use Rattle.mesh.proofs.writer.put_section.Statement.{statement}
 use Rattle.mesh.proofs.writer.put_section.Tie as tie
