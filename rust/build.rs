@@ -1,6 +1,7 @@
 // Links the engine's archive, which tools/archive writes.
 fn main() {
-    let root = std::path::Path::new(env!("CARGO_MANIFEST_DIR")).join("..");
+    let package = std::env::var("CARGO_MANIFEST_DIR").expect("cargo tells a package its folder");
+    let root = std::path::Path::new(&package).join("..");
     let folder = root.join("target/staticlib");
     println!("cargo:rustc-link-search=native={}", folder.display());
     println!("cargo:rustc-link-lib=static=mbyasoka");

@@ -5,18 +5,20 @@ use mathlib.Core.List.{List}
 use Prim.Native.Nat.{ℕ, _+_, _*_, _-_, _<_, _≤_}
 use native.Mathlib.Omega.{arith}
 use lib.Dec.{eqb, ltb}
-use lib.IntN.{ℤ, pos, negsuc}
+use lib.IntN.{ℤ, pos, negsuc, natAbs}
 use lib.ListN.{getD}
 use borrow.Author.Tests.{lt-ltb, le-ltb}
 use Rattle.maths.specs.Tests.{eqZ, isZero, isUnit, all}
-use Rattle.maths.specs.Tables.{entries}
+use Rattle.maths.specs.Tables.{Entries, entries}
 use Rattle.maths.proofs.Cases.{lt-or, bool-or, cond-true, cond-false}
 use Rattle.maths.proofs.Tests.{zero-true, unit-true, all-at, all-same, count-same}
 use Rattle.maths.proofs.Dots.{dot-same}
 use Rattle.maths.proofs.Tables.{entries-in, entries-out, in-or-out}
 use Rattle.rules.specs.Good.{times, oneEach, allZero, inPlace, closes}
-use Rattle.grid.specs.Grid.{Units, Summands, columnSum, run}
+use Rattle.rules.proofs.Judged.{closes-rows}
+use Rattle.grid.specs.Grid.{Summands, columnSum, run}
 use Rattle.good.specs.Columns.{layer, columnInPlace, Matrix, Neighbours}
+use Rattle.good.specs.Parts.{Placed}
 use Rattle.good.proofs.Tests.{all-split, all-columns}
 
 -- column j, row by row
@@ -33,21 +35,21 @@ module _ (m : List ℤ) (j : ℕ) (h : j < 96) where
   zero-column = all-same 96 (λ i l. ap isZero (sym (entries-in m i j l h)))
 
 -- column j of `high`, as a chain of the cells of `low`
-module _ {low high : List ℤ} {rows between : ℕ} (p : Neighbours low high rows between) (j : ℕ) (h : j < 96) where
+module _ {low high : List ℤ} {between : ℕ} (p : Neighbours low high between) (j : ℕ) (h : j < 96) where
   pub column-summands : Summands low between high (96 * j)
   column-summands = record {
-    size = p .lower .columns .size;
-    few = p .lower .columns .few;
-    inside = omega (arith, p .lower .columns .few, p .size);
+    size = p .lower .size;
+    few = p .lower .few;
+    inside = omega (arith, p .lower .few, p .size);
     units = p .lowerUnits;
-    small = λ k l. rw (← entries-in high k j (omega (arith, p .lower .columns .few)) h) (p .upperUnits .unit k j);
+    small = λ k l. rw (← entries-in high k j (omega (arith, p .lower .few)) h) (p .upperUnits .unit k j);
   }
 
-  pub column-closes : {t : Bool} → t ≡ all rows (λ r. isZero (columnSum low between (run high (96 * j)) r))
-      → closes rows (layer between low) (λ i. entries high i j) ≡ t
+  pub column-closes : {t : Bool} → t ≡ all 96 (λ r. isZero (columnSum low between (run high (96 * j)) r))
+      → closes 96 (layer between low) (λ i. entries high i j) ≡ t
   unfolding closes
-  column-closes e = all-same rows (λ r _. ap isZero
-      (dot-same between (λ _ _. refl) (λ i l. entries-in high i j (omega (arith, p .lower .columns .few)) h))) ∙ sym e
+  column-closes e = all-same 96 (λ r _. ap isZero
+      (dot-same between (λ _ _. refl) (λ i l. entries-in high i j (omega (arith, p .lower .few)) h))) ∙ sym e
 
 -- what `inPlace` asks of one entry
 abbrev fine : List ℤ → ℕ → ℕ → ℕ → ℕ → Bool
@@ -91,15 +93,22 @@ module _ {m : List ℤ} {rows n : ℕ} (s : Matrix m rows n) where
   in-place-rest e = in-place-split ∙ rw e
 
 -- what the test tells of every entry
-pub in-place-units : (m : List ℤ) (rows n : ℕ) → inPlace rows (layer n m) ≡ true → Units m
+pub in-place-at : (m : List ℤ) (rows n : ℕ) → inPlace rows (layer n m) ≡ true → Placed m rows
 unfolding inPlace
-in-place-units m rows n e = record {
-  unit = λ i j. in-or-out i j
-      (λ hi hj. bool-or (ltb i rows && ltb j n)
-      (λ t. unit-true (entries m i j) (sym (cond-true _ _ t) ∙ at i j hi hj))
-      (λ t. rw (zero-true (sym (cond-false _ _ t) ∙ at i j hi hj)) (omega arith)))
-      (λ o. rw (entries-out m i j o) (omega arith));
+in-place-at m rows n e = record {
+  units = record { unit = λ i j. in-or-out i j (inside i j) (λ o. rw (entries-out m i j o) (omega arith)) };
+  past = λ i j h. in-or-out i j (λ hi hj. zero-true (rw (le-ltb i rows h) at (at i j hi hj))) (entries-out m i j);
 }
   where
     at : (i j : ℕ) → i < 96 → j < 96 → fine m rows n i j ≡ true
     at i j hi hj = all-at 96 _ (all-at 96 _ e j hj) i hi
+
+    inside : (i j : ℕ) → i < 96 → j < 96 → natAbs (entries m i j) ≤ 1
+    inside i j hi hj = bool-or (ltb i rows && ltb j n)
+        (λ t. unit-true (entries m i j) (sym (cond-true _ _ t) ∙ at i j hi hj))
+        (λ t. rw (zero-true (sym (cond-false _ _ t) ∙ at i j hi hj)) (omega arith))
+
+-- past the rows in use a product is zero
+pub product-rows : {m : List ℤ} {rows : ℕ} → Placed m rows → rows ≤ 96 → {t : Bool} (between n : ℕ) (f : Entries)
+    → t ≡ all n (λ j. closes 96 (layer between m) (λ i. f i j)) → t ≡ all n (λ j. closes rows (layer between m) (λ i. f i j))
+product-rows p short between n f e = e ∙ all-same n (λ j _. sym (closes-rows (λ i. f i j) _ (layer between _) short (p .past)))

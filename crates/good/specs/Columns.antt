@@ -33,9 +33,9 @@ pub record Column (m : List ℤ) (from rows : ℕ) : Type 0 where
   pub inside : from + 96 ≤ length m
   pub short : rows ≤ 96
 
--- two neighbouring matrices of -1, 0 and 1, the lower one with its rows and columns in use
-pub record Neighbours (low high : List ℤ) (rows between : ℕ) : Type 0 where
-  pub lower : Matrix low rows between
+-- two neighbouring matrices of -1, 0 and 1, the lower one with its columns in use
+pub record Neighbours (low high : List ℤ) (between : ℕ) : Type 0 where
+  pub lower : Columns low between
   pub size : length high ≡ 9216
   pub lowerUnits : Units low
   pub upperUnits : Units high

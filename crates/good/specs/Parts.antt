@@ -1,10 +1,12 @@
 -- The test of a good pattern in the parts that are tested one after the other, and what each needs.
+use mathlib.Core.Path.{_≡_}
 use mathlib.Core.Bool.{Bool, not, _&&_}
 use mathlib.Core.List.{List, [], _∷_}
-use Prim.Native.Nat.{ℕ}
+use Prim.Native.Nat.{ℕ, _≤_}
 use lib.Dec.{leb}
-use lib.IntN.{ℤ}
+use lib.IntN.{ℤ, pos}
 use Rattle.maths.specs.Tests.{all}
+use Rattle.maths.specs.Tables.{entries}
 use Rattle.grid.specs.Grid.{Units}
 use Rattle.rules.specs.declared.counts.Counts.{Counts}
 use Rattle.rules.specs.Counts.{countOf}
@@ -41,8 +43,13 @@ pub record Stored (n0 n1 n2 n3 : ℕ) (m1 m2 m3 : List ℤ) : Type 0 where
   pub second : Matrix m2 n1 n2
   pub third : Matrix m3 n2 n3
 
--- three matrices of -1, 0 and 1
-pub record AllUnits (m1 m2 m3 : List ℤ) : Type 0 where
-  pub first : Units m1
-  pub second : Units m2
-  pub third : Units m3
+-- a matrix with its entries in place: -1, 0 or 1, and 0 past the rows in use
+pub record Placed (m : List ℤ) (rows : ℕ) : Type 0 where
+  pub units : Units m
+  pub past : (i j : ℕ) → rows ≤ i → entries m i j ≡ pos 0
+
+-- all three
+pub record AllPlaced (n0 n1 n2 : ℕ) (m1 m2 m3 : List ℤ) : Type 0 where
+  pub first : Placed m1 n0
+  pub second : Placed m2 n1
+  pub third : Placed m3 n2

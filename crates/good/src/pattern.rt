@@ -6,7 +6,7 @@ ghost use Rattle.rules.specs.Counts.{countOf};
 ghost use Rattle.rules.specs.Complex.{complex};
 ghost use Rattle.rules.specs.Good.{isGood};
 ghost use Rattle.rules.specs.Calls.{sized};
-ghost use Rattle.good.specs.Parts.{cells, fewCells, formed, sound, Stored, AllUnits};
+ghost use Rattle.good.specs.Parts.{cells, fewCells, formed, sound, Stored, AllPlaced};
 use crate::columns::faces;
 use crate::columns::in_place;
 use crate::columns::seams;
@@ -28,15 +28,15 @@ fn few(c: Counts) -> bool
     (c.n[0] <= 96) & (c.n[1] <= 96) & (c.n[2] <= 96) & (c.n[3] <= 96)
 }
 
-// Whether the columns in use are formed as they must be, where all entries are -1, 0 or 1.
+// Whether the columns in use are formed as they must be, where all entries are in place.
 fn is_formed(n0: usize, n1: usize, n2: usize, n3: usize, m1: &[i8], m2: &[i8], m3: &[i8]) -> bool
     requires { ⌜ Stored n0 n1 n2 n3 (now m1) (now m2) (now m3) ⌝ }
-    requires { ⌜ AllUnits (now m1) (now m2) (now m3) ⌝ }
+    requires { ⌜ AllPlaced n0 n1 n2 (now m1) (now m2) (now m3) ⌝ }
     ensures { λ r. ⌜ r ≡ formed (cells n0 n1 n2 n3 (now (m1 .entry)) (now (m2 .entry)) (now (m3 .entry))) ⌝ }
 {
     seams(m1, n1)
         & (faces(m2, n2) & faces(m3, n3))
-        & (product_zero(m1, m2, n0, n1, n2) & product_zero(m2, m3, n1, n2, n3))
+        & (product_zero(m1, m2, n1, n2) & product_zero(m2, m3, n2, n3))
 }
 
 // Whether all entries are in place, and then whether the columns are formed.

@@ -8,13 +8,13 @@ ghost use Rattle.good.specs.Columns.{layer, Neighbours};
 use grid::sums::columns_cancel;
 
 // Whether each of n columns of `high`, a chain of cells of `low`, has boundary zero.
-pub fn product_zero(low: &[i8], high: &[i8], rows: usize, between: usize, n: usize) -> bool
-    requires { ⌜ Neighbours (now low) (now high) rows between ⌝ }
+pub fn product_zero(low: &[i8], high: &[i8], between: usize, n: usize) -> bool
+    requires { ⌜ Neighbours (now low) (now high) between ⌝ }
     requires { ⌜ n ≤ 96 ⌝ }
-    ensures { λ r. ⌜ r ≡ all n (λ j. closes rows (layer between (now (low .entry))) (λ i. entries (now (high .entry)) i j)) ⌝ }
+    ensures { λ r. ⌜ r ≡ all n (λ j. closes 96 (layer between (now (low .entry))) (λ i. entries (now (high .entry)) i j)) ⌝ }
 {
     for j in 0..n {
-        if !columns_cancel(low, rows, between, high, 96 * j) {
+        if !columns_cancel(low, between, high, 96 * j) {
             return false;
         }
     }

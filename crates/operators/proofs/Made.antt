@@ -5,7 +5,7 @@ use mathlib.Core.List.{List, [], _∷_}
 use Prim.Native.Nat.{ℕ, zero, suc, pred, _+_, _<_, _≤_}
 use native.Mathlib.Numerals.{add-one}
 use native.Mathlib.Omega.{arith}
-use borrow.Author.Tests.{lt-ltb, le-ltb}
+use borrow.Author.Tests.{ne-eqb, lt-ltb, le-ltb}
 use lib.IntN.{ℤ, natAbs}
 use lib.ListN.{length}
 use Rattle.maths.specs.Tables.{entries, tab}
@@ -23,9 +23,11 @@ use Rattle.rules.specs.Good.{allZero, closes}
 use Rattle.rules.specs.Edits.{layers, at3, put, make}
 use Rattle.rules.specs.Operators.{Faces, chainOf, allBelow, closed, makeStep}
 use Rattle.rules.specs.Calls.{Lent, lent, coefficients, applied}
+use Rattle.rules.proofs.Judged.{closes-rows}
 use Rattle.rules.proofs.Stored.{Sized}
 use Rattle.rules.specs.Complex.{pattern}
 use Rattle.operators.specs.Boundary.{layer}
+use Rattle.operators.specs.Held.{Held}
 use Rattle.operators.specs.Append.{tried, setIf, appended, Storable, Closable, Appendable}
 
 -- the counts: one more at dimension k
@@ -63,19 +65,19 @@ module _ (test : Bool) (at : ℕ) (column : List ℤ) (whole : List ℤ → Patt
 abbrev count : Pattern → ℕ → ℕ
 count p k = countOf (p .counts) k
 
-module _ (p : Pattern) (S : Sized p) (column : List ℤ) where
+module _ (p : Pattern) (H : Held p) (column : List ℤ) where
   abbrev v : Chain
   v = coefficients column
 
   -- matrices that are not touched
   same1 : p .m1 ≡ tab (entries (p .m1))
-  same1 = sym (tab-entries (p .m1) (S .size1))
+  same1 = sym (tab-entries (p .m1) (H .sized .size1))
 
   same2 : p .m2 ≡ tab (entries (p .m2))
-  same2 = sym (tab-entries (p .m2) (S .size2))
+  same2 = sym (tab-entries (p .m2) (H .sized .size2))
 
   same3 : p .m3 ≡ tab (entries (p .m3))
-  same3 = sym (tab-entries (p .m3) (S .size3))
+  same3 = sym (tab-entries (p .m3) (H .sized .size3))
 
   -- by the dimension: which test a column has to pass, and which matrix has it then
   pub append-0 : {k : ℕ} → k ≡ 0 → lent true p ≡ appended k v p
@@ -91,17 +93,22 @@ module _ (p : Pattern) (S : Sized p) (column : List ℤ) where
   unfolding appended make at3 over withColumn put
   append-1 e q = rw (e, closed-1) (placed _ _ _ (λ m. pattern (p .counts) m (p .m2) (p .m3)) q (rw (← same2, ← same3)) refl)
 
+  -- past the rows in use every boundary is 0
+  closed-next : (k : ℕ) → closed (suc (suc k)) v (complex p) ≡ not (allZero v) && closes 96 (complex p (suc k)) v
+  unfolding closed
+  closed-next k = rw (ne-eqb (suc (suc k)) 0 (omega arith), closes-rows v (complex p k .n) (complex p (suc k)) (H .good .few k) (H .good .rows k))
+
   pub append-2 : {k : ℕ} {done : Bool} {m : List ℤ} → k ≡ 2
-      → tried done m ≡ setIf (not (allZero v) && closes (count p 0) (layer (count p 1) (p .m1)) v) (count p 2) column (p .m2)
+      → tried done m ≡ setIf (not (allZero v) && closes 96 (layer (count p 1) (p .m1)) v) (count p 2) column (p .m2)
       → lent done (pattern (p .counts) (p .m1) m (p .m3)) ≡ appended k v p
-  unfolding appended closed make at3 over withColumn put
-  append-2 e q = rw e (placed _ _ _ (λ m. pattern (p .counts) (p .m1) m (p .m3)) q (rw (← same1, ← same3)) refl)
+  unfolding appended make at3 over withColumn put
+  append-2 e q = rw (e, closed-next 0) (placed _ _ _ (λ m. pattern (p .counts) (p .m1) m (p .m3)) q (rw (← same1, ← same3)) refl)
 
   pub append-3 : {k : ℕ} {done : Bool} {m : List ℤ} → k ≡ 3
-      → tried done m ≡ setIf (not (allZero v) && closes (count p 1) (layer (count p 2) (p .m2)) v) (count p 3) column (p .m3)
+      → tried done m ≡ setIf (not (allZero v) && closes 96 (layer (count p 2) (p .m2)) v) (count p 3) column (p .m3)
       → lent done (pattern (p .counts) (p .m1) (p .m2) m) ≡ appended k v p
-  unfolding appended closed make at3 over withColumn put
-  append-3 e q = rw e (placed _ _ _ (λ m. pattern (p .counts) (p .m1) (p .m2) m) q (rw (← same1, ← same2)) refl)
+  unfolding appended make at3 over withColumn put
+  append-3 e q = rw (e, closed-next 1) (placed _ _ _ (λ m. pattern (p .counts) (p .m1) (p .m2) m) q (rw (← same1, ← same2)) refl)
 
 -- a count of the complex is a stored one
 pub count-is : (p : Pattern) (q : ℕ) → q ≤ 3 → complex p q .n ≡ count p q
@@ -120,17 +127,15 @@ module _ {k : ℕ} {column : List ℤ} {p : Pattern} (A : Appendable k column p)
   chain-of l few unit =
       record { size = l; few = few; inside = omega (arith, A .size); units = record { unit = unit }; small = λ j h. A .unit (0 + j) }
 
-  pub panel-fits : k ≡ 2 → Closable (p .m1) (count p 0) (count p 1) column (p .m2) (count p 2)
+  pub panel-fits : k ≡ 2 → Closable (p .m1) (count p 1) column (p .m2) (count p 2)
   panel-fits e = record {
     storable = record { size = A .size; line = record { size = A .held .sized .size2; inside = rw e at (A .room) } };
-    short = A .held .good .few 0;
     summands = chain-of (A .held .sized .size1) (A .held .good .few 1) (A .held .good .units 1);
   }
 
-  pub block-fits : k ≡ 3 → Closable (p .m2) (count p 1) (count p 2) column (p .m3) (count p 3)
+  pub block-fits : k ≡ 3 → Closable (p .m2) (count p 2) column (p .m3) (count p 3)
   block-fits e = record {
     storable = record { size = A .size; line = record { size = A .held .sized .size3; inside = rw e at (A .room) } };
-    short = A .held .good .few 1;
     summands = chain-of (A .held .sized .size2) (A .held .good .few 2) (A .held .good .units 2);
   }
 

@@ -34,9 +34,8 @@ pub record Storable (column m : List ℤ) (at : ℕ) : Type 0 where
   pub line : Line m at
 
 -- the same, and the matrix below, of whose n cells the column is a chain
-pub record Closable (low : List ℤ) (rows n : ℕ) (column m : List ℤ) (at : ℕ) : Type 0 where
+pub record Closable (low : List ℤ) (n : ℕ) (column m : List ℤ) (at : ℕ) : Type 0 where
   pub storable : Storable column m at
-  pub short : rows ≤ 96
   pub summands : Summands low n column 0
 
 -- the column of a new cell of dimension k

@@ -24,11 +24,11 @@ fn set_some(column: &[i8], m: &mut [i8], at: usize) -> bool
 }
 
 // The column is stored at `at`, if it is not zero and has boundary zero in the matrix below.
-fn set_closed(low: &[i8], rows: usize, n: usize, column: &[i8], m: &mut [i8], at: usize) -> bool
-    requires { ⌜ Closable (now low) rows n (now column) (now m) at ⌝ }
-    ensures { λ r. ⌜ tried r (now (m .exit)) ≡ setIf (not (allZero (coefficients (now (column .entry)))) && closes rows (layer n (now (low .entry))) (coefficients (now (column .entry)))) at (now (column .entry)) (now (m .entry)) ⌝ }
+fn set_closed(low: &[i8], n: usize, column: &[i8], m: &mut [i8], at: usize) -> bool
+    requires { ⌜ Closable (now low) n (now column) (now m) at ⌝ }
+    ensures { λ r. ⌜ tried r (now (m .exit)) ≡ setIf (not (allZero (coefficients (now (column .entry)))) && closes 96 (layer n (now (low .entry))) (coefficients (now (column .entry)))) at (now (column .entry)) (now (m .entry)) ⌝ }
 {
-    if !columns_cancel(low, rows, n, column, 0) {
+    if !columns_cancel(low, n, column, 0) {
         return false;
     }
     set_some(column, m, at)
@@ -46,14 +46,13 @@ pub(crate) fn append(
     requires { ⌜ Appendable k (now column) (pattern c (now m1) (now m2) (now m3)) ⌝ }
     ensures { λ r. ⌜ lent r (pattern c (now (m1 .exit)) (now (m2 .exit)) (now (m3 .exit))) ≡ appended k (coefficients (now (column .entry))) (pattern c (now (m1 .entry)) (now (m2 .entry)) (now (m3 .entry))) ⌝ }
 {
-    let n0 = c.n[0] as usize;
     let n1 = c.n[1] as usize;
     let n2 = c.n[2] as usize;
     let n3 = c.n[3] as usize;
     match k {
         0 => true,
         1 => set_some(column, m1, n1),
-        2 => set_closed(m1, n0, n1, column, m2, n2),
-        _ => set_closed(m2, n1, n2, column, m3, n3),
+        2 => set_closed(m1, n1, column, m2, n2),
+        _ => set_closed(m2, n2, column, m3, n3),
     }
 }

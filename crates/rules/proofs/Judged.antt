@@ -1,16 +1,17 @@
 -- What the tests on columns say.
-use mathlib.Core.Path.{_≡_, _∙_, ap}
+use mathlib.Core.Path.{_≡_, _∙_, sym, ap}
 use mathlib.Core.Logic.{_≢_}
-use mathlib.Core.Bool.{true, false, not}
+use mathlib.Core.Bool.{Bool, true, false, not}
 use Prim.Native.Nat.{ℕ, _<_, _≤_}
+use native.Mathlib.Omega.{arith}
 use borrow.Author.Tests.{eqb-true, eq-eqb, not-true}
 use lib.Dec.{eqb}
 use lib.IntN.{pos, negsuc, natAbs, *ℤ-zero}
 use Rattle.maths.specs.Tests.{isZero, isUnit, all}
 use Rattle.maths.specs.Sums.{dot}
-use Rattle.maths.proofs.Cases.{and-left, and-right, and-both}
+use Rattle.maths.proofs.Cases.{lt-or, bool-or, and-left, and-right, and-both}
 use Rattle.maths.proofs.Tests.{zero-is, zero-true, zero-false, not-zero, unit-true, unit-is, all-at, all-of, all-not, all-false}
-use Rattle.maths.proofs.Dots.{dot-more}
+use Rattle.maths.proofs.Dots.{dot-0-l, dot-more}
 use Rattle.rules.specs.Complex.{Layer, Chain}
 use Rattle.rules.specs.Good.{times, OneEach, oneEach, allZero, closes}
 use Rattle.rules.specs.Operators.{proper}
@@ -51,6 +52,19 @@ module _ (v : Chain) where
   pub proper-is : ((i : ℕ) → i < 96 → natAbs (v i) ≤ 1) → (i : ℕ) → i < 96 → v i ≢ pos 0 → proper v ≡ true
   unfolding proper
   proper-is u i h n = and-both (all-of 96 (λ i h. unit-is (v i) (u i h))) (ap not (has-face i h n))
+
+  -- past the rows in use every sum is 0
+  pub closes-rows : (rows : ℕ) (A : Layer) → rows ≤ 96 → ((i j : ℕ) → rows ≤ i → A .d i j ≡ pos 0) → closes rows A v ≡ closes 96 A v
+  unfolding closes
+  closes-rows rows A short past = bool-or (all rows zero)
+      (λ t. t ∙ sym (all-of 96 (λ r _. lt-or r rows (all-at rows zero t r) (past-zero r))))
+      (λ t. let f = all-false rows zero t in t ∙ sym (all-not 96 zero (f .0) (omega (arith, f .1)) (f .2)))
+    where
+      zero : ℕ → Bool
+      zero r = isZero (dot (A .n) (λ i. A .d r i) (λ i. v i))
+
+      past-zero : (r : ℕ) → rows ≤ r → zero r ≡ true
+      past-zero r h = rw (dot-0-l (A .n) (λ i. v i) (λ i _. past r i h)) zero-is
 
   -- a chain of the cells of A
   module _ (rows : ℕ) (A : Layer) (few : A .n ≤ 96) (w : Within (A .n) v) where

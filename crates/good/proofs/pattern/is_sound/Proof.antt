@@ -1,8 +1,8 @@
--- `good::pattern::is_sound` meets its contract: what is in place is -1, 0 or 1, so the other tests may be made.
+-- `good::pattern::is_sound` meets its contract: where all is in place, the other tests may be made.
 use mathlib.Core.Path.{sym, _∙_}
 use borrow.Author.Needs.{needs}
 use Rattle.good.specs.Parts.{allInPlace, sound}
-use Rattle.good.proofs.Places.{in-place-units}
+use Rattle.good.proofs.Places.{in-place-at}
 use Rattle.good.proofs.Parts.{three}
 use Rattle.good.proofs.pattern.is_sound.Statement.{statement}
 use Rattle.good.proofs.pattern.is_sound.Tie as tie
@@ -13,9 +13,9 @@ is-formed-requires c κs =
     let t = three (c .if1 .taken) in (
       a .before .before .before .pre,
       record {
-        first = in-place-units _ _ _ (sym (a .before .before .in-place .ensures) ∙ t .0);
-        second = in-place-units _ _ _ (sym (a .before .in-place2 .ensures) ∙ t .1);
-        third = in-place-units _ _ _ (sym (a .in-place3 .ensures) ∙ t .2);
+        first = in-place-at _ _ _ (sym (a .before .before .in-place .ensures) ∙ t .0);
+        second = in-place-at _ _ _ (sym (a .before .in-place2 .ensures) ∙ t .1);
+        third = in-place-at _ _ _ (sym (a .in-place3 .ensures) ∙ t .2);
       },
     )
 

@@ -12,16 +12,16 @@ use Rattle.good.proofs.products.product_zero.Statement.{statement}
 use Rattle.good.proofs.products.product_zero.Tie as tie
 
 abbrev Inv-loop : tie.InvT-loop
-Inv-loop low high rows between n j₀ j = Passed (λ j. closes rows (layer between low) (λ i. entries high i j)) n j
+Inv-loop low high between n j₀ j = Passed (λ j. closes 96 (layer between low) (λ i. entries high i j)) n j
 
 abbrev μ-loop : tie.MeasureT-loop
-μ-loop low high rows between n j₀ j = n - j
+μ-loop low high between n j₀ j = n - j
 
 loop-holds : tie.Need-loop-holds Inv-loop μ-loop
 loop-holds c = passed-none _ _
 
 columns-cancel-requires : tie.Need-columns-cancel-requires Inv-loop μ-loop
-columns-cancel-requires c κs = let p = c .before .before .pre .0 in (p .lower .short, column-summands p _ (omega arith))
+columns-cancel-requires c κs = column-summands (c .before .before .pre .0) _ (omega arith)
 
 returns : tie.Need-returns Inv-loop μ-loop
 returns c =

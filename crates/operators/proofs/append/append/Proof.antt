@@ -13,47 +13,45 @@ abbrev entry : (c : tie.Start) → Pattern
 entry c = let a = c .args in pattern (a .t1) (a .m1 .now) (a .m2 .now) (a .m3 .now)
 
 -- the last dimension
-last : (c : tie.At-match-rest) → c .before .before .before .before .before .args .k ≡ 3
+last : (c : tie.At-match-rest) → c .before .before .before .before .args .k ≡ 3
 last c = omega arith
 
 seam-requires : tie.Need-set-some-requires
-seam-requires c κs = seam-fits (c .before .before .before .before .before .before .pre) (c .before .match .keys2)
+seam-requires c κs = seam-fits (c .before .before .before .before .before .pre) (c .before .match .keys2)
 
 panel-requires : tie.Need-set-closed-requires
-panel-requires c κs = panel-fits (c .before .before .before .before .before .before .before .pre) (c .before .before .match .keys3)
+panel-requires c κs = panel-fits (c .before .before .before .before .before .before .pre) (c .before .before .match .keys3)
 
 block-requires : tie.Need-set-closed-requires-2
-block-requires c κs = block-fits (c .before .before .before .before .before .before .before .pre) (last (c .before .before))
+block-requires c κs = block-fits (c .before .before .before .before .before .before .pre) (last (c .before .before))
 
 corner : tie.Need-returns
 corner c =
-    let start = c .before .before .before .before .before in
-    append-0 (entry start) (start .pre .held .sized) (start .args .column .now) (c .match .keys1)
+    let start = c .before .before .before .before in
+    append-0 (entry start) (start .pre .held) (start .args .column .now) (c .match .keys1)
 
 seam : tie.Need-returns-2
 seam c =
     let arm = c .before .before .before in
-    let start = arm .before .before .before .before .before in
-    append-1 (entry start) (start .pre .held .sized) (start .args .column .now) (arm .match .keys2) (c .before .set-some .ensures)
+    let start = arm .before .before .before .before in
+    append-1 (entry start) (start .pre .held) (start .args .column .now) (arm .match .keys2) (c .before .set-some .ensures)
 
 panel : tie.Need-returns-3
 panel c =
     let arm = c .before .before .before .before in
-    let start = arm .before .before .before .before .before in
-    append-2 (entry start) (start .pre .held .sized) (start .args .column .now) (arm .match .keys3) (c .before .set-closed .ensures)
+    let start = arm .before .before .before .before in
+    append-2 (entry start) (start .pre .held) (start .args .column .now) (arm .match .keys3) (c .before .set-closed .ensures)
 
 block : tie.Need-returns-4
 block c =
     let arm = c .before .before .before .before in
-    let start = arm .before .before .before .before .before in
-    append-3 (entry start) (start .pre .held .sized) (start .args .column .now) (last arm) (c .before .set-closed2 .ensures)
+    let start = arm .before .before .before .before in
+    append-3 (entry start) (start .pre .held) (start .args .column .now) (last arm) (c .before .set-closed2 .ensures)
 
 pub append-spec : {M : Type 1} → statement M
 append-spec =
     tie.close
     (tie.spec
-    (λ c. search needs)
-    (λ c. search needs)
     (λ c. search needs)
     (λ c. search needs)
     (λ c. search needs)

@@ -17,11 +17,11 @@ some c = not (allZero (coefficients (c .args .column .now)))
 
 -- the test of the bytes is that of the chain
 tested : (c : tie.After-columns-cancel) → let a = c .before .args in
-    closes (a .rows) (layer (a .n) (a .low .now)) (coefficients (a .column .now)) ≡ c .columns-cancel .result
+    closes 96 (layer (a .n) (a .low .now)) (coefficients (a .column .now)) ≡ c .columns-cancel .result
 unfolding closes
 tested c =
     let a = c .before .args in
-    sym (from-start (a .column .now) (closes (a .rows) (layer (a .n) (a .low .now))) (c .columns-cancel .ensures))
+    sym (from-start (a .column .now) (closes 96 (layer (a .n) (a .low .now))) (c .columns-cancel .ensures))
 
 open-column : tie.Need-returns
 open-column c =
@@ -41,4 +41,4 @@ tried c =
     ∙ set-shut (a .at) (a .column .now) (a .m .now) (some start) (tested (test .before) ∙ not-false _ (test .if1 .left))
 
 pub set-closed-spec : {M : Type 1} → statement M
-set-closed-spec = tie.close (tie.spec (λ c κs. (c .pre .short, c .pre .summands)) open-column set-some-requires (λ c. search needs) tried)
+set-closed-spec = tie.close (tie.spec (λ c κs. c .pre .summands) open-column set-some-requires (λ c. search needs) tried)
