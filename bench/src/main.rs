@@ -26,7 +26,9 @@ fn time(calls: u32, mut engine: impl FnMut(), mut plain: impl FnMut()) -> (f64, 
 }
 
 fn row(name: &str, (engine, rust): (f64, f64)) {
-    println!("| {name} | {engine:.0} | {rust:.0} | {:.2} |", engine / rust);
+    let ratio = engine / rust;
+    let digits = if ratio < 0.1 { 4 } else { 2 };
+    println!("| {name} | {engine:.0} | {rust:.0} | {ratio:.digits$} |");
 }
 
 fn same(e: &Engine, p: &Plain) -> bool {
