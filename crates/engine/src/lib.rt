@@ -1,4 +1,5 @@
-// The public calls.
+// The public calls: reading and writing a mesh, which stand in `mesh`; here one operator and a script; a module each for the Euler number, the
+// boundary of a chain and carrying one.
 ghost use mathlib.Core.Path.{_≡_};
 ghost use Rattle.rules.specs.Complex.{pattern};
 ghost use Rattle.rules.specs.Calls.{lent, applyCall, runCall};
@@ -9,6 +10,8 @@ use form::fields::refusal_of;
 use form::operators::form_of_operator;
 use form::script::form_of_script;
 use good::refusal_of_pattern;
+pub use mesh::reader::read_mesh;
+pub use mesh::writer::write_mesh;
 use rules::answers::Applied;
 use rules::answers::ScriptRun;
 use rules::counts::Counts;

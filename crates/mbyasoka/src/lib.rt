@@ -7,10 +7,10 @@ use engine::apply_operator;
 use engine::boundary::boundary;
 use engine::carry::carry;
 use engine::euler::euler;
+use engine::read_mesh;
 use engine::run_script;
+use engine::write_mesh;
 use good::refusal_of_pattern;
-use mesh::reader::read_mesh;
-use mesh::writer::write_mesh;
 use rules::counts::Counts;
 
 // Whether the pattern is good: 0, or the refusal 1 or 2.

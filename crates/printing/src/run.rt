@@ -5,8 +5,8 @@ ghost use Rattle.rules.specs.Calls.{lent};
 ghost use Rattle.mesh.specs.Reading.{Long};
 ghost use Rattle.printing.specs.Input.{runInput};
 use engine::euler::euler;
+use engine::read_mesh;
 use engine::run_script;
-use mesh::reader::read_mesh;
 use rules::counts::Counts;
 use rules::refusals::ACCEPTED;
 
