@@ -3,32 +3,33 @@ mod inputs;
 mod plain;
 
 use inputs::Timed;
-use mbyasoka::Pattern as Engine;
-use plain::pattern::Pattern as Plain;
+use mbyasoka::{Pattern as Engine, Run, SIZE};
+use plain::chains;
+use plain::mesh::{read_mesh, write_mesh};
+use plain::pattern::{check, check_nested, Pattern as Plain};
+use plain::script::{apply_operator, euler, run_script};
 use std::hint::black_box;
 use std::time::Instant;
 
-/// Nanoseconds of the fastest of several batches of each, the two in turn.
-fn time(calls: u32, mut engine: impl FnMut(), mut plain: impl FnMut()) -> (f64, f64) {
-    let mut best = (f64::MAX, f64::MAX);
-    let batch = |work: &mut dyn FnMut()| {
-        let start = Instant::now();
-        for _ in 0..calls {
-            work();
-        }
-        start.elapsed().as_nanos() as f64 / calls as f64
-    };
-    for _ in 0..40 {
-        best.0 = best.0.min(batch(&mut engine));
-        best.1 = best.1.min(batch(&mut plain));
+/// Nanoseconds of one call, over a batch.
+fn batch<T>(calls: u32, work: &mut impl FnMut() -> T) -> f64 {
+    let start = Instant::now();
+    for _ in 0..calls {
+        black_box(work());
     }
-    best
+    start.elapsed().as_nanos() as f64 / calls as f64
 }
 
-fn row(name: &str, (engine, rust): (f64, f64)) {
-    let ratio = engine / rust;
+/// A row of the table: the fastest of several batches of each, the two in turn.
+fn row<A, B>(name: &str, calls: u32, mut engine: impl FnMut() -> A, mut plain: impl FnMut() -> B) {
+    let mut best = (f64::MAX, f64::MAX);
+    for _ in 0..40 {
+        best.0 = best.0.min(batch(calls, &mut engine));
+        best.1 = best.1.min(batch(calls, &mut plain));
+    }
+    let ratio = best.0 / best.1;
     let digits = if ratio < 0.1 { 4 } else { 2 };
-    println!("| {name} | {engine:.0} | {rust:.0} | {ratio:.digits$} |");
+    println!("| {name} | {:.0} | {:.0} | {ratio:.digits$} |", best.0, best.1);
 }
 
 fn same(e: &Engine, p: &Plain) -> bool {
@@ -39,171 +40,73 @@ fn same(e: &Engine, p: &Plain) -> bool {
 fn both(mesh: &[u8]) -> (Box<Engine>, Box<Plain>) {
     let (mut e, mut p) = (Box::<Engine>::default(), Box::new(Plain::empty()));
     assert_eq!(e.read(mesh), Ok(mesh.len()));
-    assert_eq!(plain::mesh::read_mesh(mesh, &mut p), (mesh.len(), 0));
+    assert_eq!(read_mesh(mesh, &mut p), (mesh.len(), 0));
     assert!(same(&e, &p));
     (e, p)
 }
 
-fn files(size: &str, mesh: &[u8], calls: u32) {
-    let (mut e, mut p) = both(mesh);
+fn checked_and_written(size: &str, mesh: &[u8], calls: u32) {
+    let (e, p) = both(mesh);
     let mut out = [vec![0u8; mesh.len()], vec![0u8; mesh.len()]];
     let [oe, op] = &mut out;
-    row(
-        &format!("check, {size}"),
-        time(
-            calls,
-            || {
-                let _ = black_box(black_box(&e).check());
-            },
-            || {
-                black_box(plain::pattern::check(black_box(&p)));
-            },
-        ),
-    );
-    row(
-        &format!("check, {size}, against three nested loops"),
-        time(
-            calls,
-            || {
-                let _ = black_box(black_box(&e).check());
-            },
-            || {
-                black_box(plain::pattern::check_nested(black_box(&p)));
-            },
-        ),
-    );
-    row(
-        &format!("write, {size}"),
-        time(
-            calls,
-            || {
-                let _ = black_box(black_box(&e).write(oe));
-            },
-            || {
-                black_box(plain::mesh::write_mesh(black_box(&p), op));
-            },
-        ),
-    );
+    let nested = format!("check, {size}, against three nested loops");
+    row(&format!("check, {size}"), calls, || black_box(&e).check(), || check(black_box(&p)));
+    row(&nested, calls, || black_box(&e).check(), || check_nested(black_box(&p)));
+    row(&format!("write, {size}"), calls, || black_box(&e).write(oe), || write_mesh(black_box(&p), op));
     assert!(out[0] == mesh && out[1] == mesh);
-    row(
-        &format!("read, {size}, over the same pattern"),
-        time(
-            calls,
-            || {
-                let _ = black_box(e.read(black_box(mesh)));
-            },
-            || {
-                black_box(plain::mesh::read_mesh(black_box(mesh), &mut p));
-            },
-        ),
-    );
-    row(
-        &format!("read, {size}, into cleared matrices"),
-        time(
-            calls,
-            || {
-                e.matrices = [[0; mbyasoka::SIZE]; 3];
-                let _ = black_box(black_box(&mut e).read(black_box(mesh)));
-            },
-            || {
-                p.m = [[0; mbyasoka::SIZE]; 3];
-                black_box(plain::mesh::read_mesh(black_box(mesh), black_box(&mut p)));
-            },
-        ),
-    );
 }
 
-/// One operator, the Euler number and the chains of a full pattern.
-fn small_calls(mesh: &[u8]) {
+fn read(size: &str, mesh: &[u8], calls: u32) {
     let (mut e, mut p) = both(mesh);
-    let chain = [1_000_000; 96];
-    let mut out = [[0; 96], [1; 96]];
-    let [oe, op] = &mut out;
-    let flip = [0x52, 40];
-    row(
-        "Euler number",
-        time(
-            20,
-            || {
-                let _ = black_box(black_box(&e).euler());
-            },
-            || {
-                black_box(plain::script::euler(black_box(&p)));
-            },
-        ),
-    );
-    row(
-        "one operator",
-        time(
-            20,
-            || {
-                let _ = black_box(e.apply(&flip));
-            },
-            || {
-                black_box(plain::script::apply_operator(&mut p, &flip));
-            },
-        ),
-    );
-    assert!(same(&e, &p));
-    row(
-        "boundary",
-        time(
-            20,
-            || {
-                let _ = black_box(e.boundary(2, black_box(&chain), oe));
-            },
-            || {
-                black_box(plain::chains::boundary(&p, 2, black_box(&chain), op));
-            },
-        ),
-    );
-    assert_eq!(oe, op);
-    row(
-        "carrying",
-        time(
-            20,
-            || {
-                let _ = black_box(e.carry(&flip, 2, black_box(&chain), oe));
-            },
-            || {
-                black_box(plain::chains::carry(&p, &flip, 2, black_box(&chain), op));
-            },
-        ),
-    );
-    assert_eq!(oe, op);
+    let over = format!("read, {size}, over the same pattern");
+    row(&over, calls, || e.read(black_box(mesh)), || read_mesh(black_box(mesh), &mut p));
+    let clear_and_read = || {
+        e.matrices = [[0; SIZE]; 3];
+        black_box(&mut e).read(black_box(mesh))
+    };
+    let clear_and_read_plain = || {
+        p.m = [[0; SIZE]; 3];
+        read_mesh(black_box(mesh), black_box(&mut p))
+    };
+    row(&format!("read, {size}, into cleared matrices"), calls, clear_and_read, clear_and_read_plain);
 }
 
-/// Every run begins with a copy of the pattern, which both make.
+/// Every run begins with a copy of the pattern, which both make, or with reading it.
 fn full_script(t: &Timed) {
     let (e0, p0) = both(&t.mesh);
     let (mut e, mut p) = (e0.clone(), p0.clone());
-    assert_eq!(e.run(&t.script), mbyasoka::Run { ran: 1024, refusal: None }, "{}", t.name);
-    assert_eq!(plain::script::run_script(&mut p, &t.script, false), (1024, 0));
+    assert_eq!(e.run(&t.script), Run { ran: 1024, refusal: None }, "{}", t.name);
+    assert_eq!(run_script(&mut p, &t.script, false), (1024, 0));
     assert!(same(&e, &p));
     let run_plain = |p: &mut Plain, again: bool| {
         p.clone_from(&p0);
-        black_box(plain::script::run_script(p, black_box(&t.script), again));
+        run_script(p, black_box(&t.script), again)
     };
     let run_engine = |e: &mut Engine| {
         e.clone_from(&e0);
-        black_box(e.run(black_box(&t.script)));
+        e.run(black_box(&t.script))
     };
-    row(t.name, time(2, || run_engine(&mut e), || run_plain(&mut p, false)));
-    row(
-        &format!("{}, with reading the pattern", t.name),
-        time(
-            2,
-            || {
-                let _ = e.read(black_box(&t.mesh));
-                black_box(e.run(black_box(&t.script)));
-            },
-            || {
-                plain::mesh::read_mesh(black_box(&t.mesh), &mut p);
-                black_box(plain::script::run_script(&mut p, black_box(&t.script), false));
-            },
-        ),
-    );
-    row(&format!("{}, against the pattern tested at every operator", t.name), time(1, || run_engine(&mut e), || run_plain(&mut p, true)));
+    row(t.name, 2, || run_engine(&mut e), || run_plain(&mut p, false));
+    let read_and_run = || (e.read(black_box(&t.mesh)), e.run(black_box(&t.script)));
+    let read_and_run_plain = || (read_mesh(black_box(&t.mesh), &mut p), run_script(&mut p, black_box(&t.script), false));
+    row(&format!("{}, with reading the pattern", t.name), 2, read_and_run, read_and_run_plain);
+    let again = format!("{}, against the pattern tested at every operator", t.name);
+    row(&again, 1, || run_engine(&mut e), || run_plain(&mut p, true));
+}
+
+/// One operator, the Euler number and the chains of a full pattern.
+fn other_calls(mesh: &[u8]) {
+    let (mut e, mut p) = both(mesh);
+    let chain = [1_000_000; 96];
+    let (mut oe, mut op) = ([0; 96], [1; 96]);
+    let flip = [0x52, 40];
+    row("Euler number", 20, || black_box(&e).euler(), || euler(black_box(&p)));
+    row("one operator", 20, || e.apply(&flip), || apply_operator(&mut p, &flip));
+    assert!(same(&e, &p));
+    row("boundary", 20, || e.boundary(2, black_box(&chain), &mut oe), || chains::boundary(&p, 2, black_box(&chain), &mut op));
+    assert_eq!(oe, op);
+    row("carrying", 20, || e.carry(&flip, 2, black_box(&chain), &mut oe), || chains::carry(&p, &flip, 2, black_box(&chain), &mut op));
+    assert_eq!(oe, op);
 }
 
 fn head(title: &str) {
@@ -212,10 +115,12 @@ fn head(title: &str) {
 
 fn main() {
     head("meshes and the check");
-    files("96 of everything", &inputs::full_mesh(), 20);
-    files("a triangle", &inputs::small_mesh(), 400);
+    for (size, mesh, calls) in [("96 of everything", inputs::full_mesh(), 20), ("a triangle", inputs::small_mesh(), 400)] {
+        checked_and_written(size, &mesh, calls);
+        read(size, &mesh, calls);
+    }
     head("a script of 1,024 operators");
     inputs::scripts().iter().for_each(full_script);
     head("other calls, 96 of everything");
-    small_calls(&inputs::full_mesh());
+    other_calls(&inputs::full_mesh());
 }
