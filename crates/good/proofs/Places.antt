@@ -17,7 +17,8 @@ use Rattle.maths.proofs.Tables.{entries-in, entries-out, in-or-out}
 use Rattle.rules.specs.Good.{times, oneEach, allZero, inPlace, closes}
 use Rattle.rules.proofs.Judged.{closes-rows}
 use Rattle.grid.specs.Grid.{Summands, columnSum, run}
-use Rattle.good.specs.Columns.{layer, columnInPlace, Matrix, Neighbours}
+use Rattle.rules.proofs.Stored.{layer}
+use Rattle.good.specs.Columns.{columnInPlace, Matrix, Neighbours}
 use Rattle.good.specs.Parts.{Placed}
 use Rattle.good.proofs.Tests.{all-split, all-columns}
 

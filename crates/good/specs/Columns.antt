@@ -6,13 +6,7 @@ use Prim.Native.Nat.{ℕ, _+_, _-_, _≤_}
 use lib.IntN.{ℤ}
 use lib.ListN.{length}
 use Rattle.maths.specs.Tests.{isZero, isUnit, all}
-use Rattle.maths.specs.Tables.{entries}
 use Rattle.grid.specs.Grid.{Units, run}
-use Rattle.rules.specs.Complex.{Layer}
-
--- the cells whose matrix is stored in m
-abbrev pub layer : ℕ → List ℤ → Layer
-layer n m = record { n = n; d = entries m }
 
 -- the column at a place: -1, 0 or 1 in the rows below the count, and 0 past it
 unfoldable pub columnInPlace : List ℤ → ℕ → ℕ → Bool

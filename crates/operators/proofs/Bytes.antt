@@ -10,19 +10,15 @@ use lib.Dec.{eqb}
 use lib.IntN.{pos, negsuc, natAbs}
 use lib.ListN.{length, getD}
 use Rattle.maths.proofs.Cases.{eq-or, by-bool}
-use Rattle.rules.specs.declared.form.Fault.{Fault}
 use Rattle.rules.specs.declared.form.OperatorForm.{OperatorForm}
 use Rattle.rules.specs.declared.operator.Operator.{Operator}
 use Rattle.rules.specs.Form.{byteAt, listAt, makeAt, madeOf, signOf}
-use Rattle.rules.proofs.Fields.{byte-says, after-got}
+use Rattle.rules.proofs.Fields.{byte-says, bad-operator, after-got}
 use Rattle.rules.proofs.Decoded.{Formed, made}
 use Rattle.rules.proofs.Listed.{Listed, list-says}
 use Rattle.operators.specs.Held.{MakeForm}
 use Rattle.operators.specs.Column.{IsFace}
 use Rattle.operators.specs.declared.faces.Face.{Face}
-
-bad-operator : {o : Operator} {next : ℕ} (f : Fault) → OperatorForm.Bad f ≢ OperatorForm.Decoded o next
-bad-operator f e = let z : _≡_ {A = ℕ} 0 1 = cc in omega arith
 
 -- head is there, after tail
 seam-inside : (s : List ℕ) (list : ℕ) {o : Operator} {next : ℕ} → makeAt s 1 list ≡ OperatorForm.Decoded o next → list + 1 < length s

@@ -10,7 +10,7 @@ use borrow.Author.Tests.{not-true, not-false, eqb-false}
 use lib.Dec.{eqb}
 use lib.IntN.{ℤ, pos, natAbs}
 use lib.ListN.{length, replicate}
-use Rattle.maths.specs.Tables.{entries, tab}
+use Rattle.maths.specs.Tables.{entries, column, tab}
 use Rattle.maths.proofs.Cases.{cond-same, by-bool}
 use Rattle.maths.proofs.Dots.{dot-same}
 use Rattle.maths.proofs.Tables.{tab-same, length-table}
@@ -21,8 +21,9 @@ use Rattle.rules.specs.Complex.{Chain, bare}
 use Rattle.rules.specs.Edits.{put, boundary, part, divider, halves, repeated}
 use Rattle.rules.specs.Operators.{divides}
 use Rattle.rules.specs.Calls.{coefficients}
-use Rattle.operators.specs.Boundary.{layer, edge, Bounded, Under}
-use Rattle.operators.specs.Part.{Takeable, Taken, column}
+use Rattle.rules.proofs.Stored.{layer}
+use Rattle.operators.specs.Boundary.{edge, Bounded, Under}
+use Rattle.operators.specs.Part.{Takeable, Taken}
 use Rattle.operators.specs.Split.{Halvable, Halved, Dividable, Repeatable, Splittable, around, divided}
 use Rattle.operators.proofs.Lists.{holds}
 

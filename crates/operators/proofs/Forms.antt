@@ -13,7 +13,7 @@ use Rattle.maths.proofs.Sums.{up-lt, up-past, up-other}
 use Rattle.maths.proofs.Tables.{clip-keeps, entries-out, entries-tab, tab-same}
 use Rattle.grid.specs.Grid.{over, negatedColumn, negatedRow, addedColumn, removedColumn, removedRow}
 use Rattle.rules.specs.Edits.{put, negated, withoutColumn, withoutRow, merged}
-use Rattle.operators.specs.Boundary.{layer}
+use Rattle.rules.proofs.Stored.{layer}
 
 -- one row or one column
 module _ (c : ℕ) (m : List ℤ) where

@@ -1,8 +1,7 @@
 -- What an operator leaves of a good pattern, accepted or refused, is a good pattern of the right lengths.
-use mathlib.Core.Path.{_≡_, refl}
+use mathlib.Core.Path.{_≡_}
 use mathlib.Core.List.{List}
 use Prim.Native.Nat.{ℕ}
-use Rattle.maths.proofs.Tables.{length-tab}
 use Rattle.rules.specs.declared.answers.Applied.{Applied}
 use Rattle.rules.specs.declared.operator.Operator.{Operator}
 use Rattle.rules.specs.Complex.{Pattern, Complex, complex, stored}
@@ -13,15 +12,12 @@ use Rattle.rules.specs.Calls.{Lent, applied}
 use Rattle.rules.proofs.Branches.{step-each}
 use Rattle.rules.proofs.Decoded.{Formed}
 use Rattle.rules.proofs.Steps.{edit-kept, removal-kept}
-use Rattle.rules.proofs.Stored.{complex-stored}
+use Rattle.rules.proofs.Stored.{complex-stored, stored-sized}
 use Rattle.rules.specs.Complex.{pattern}
 use Rattle.operators.specs.Held.{Held}
 
 pub stored-held : {X : Complex} → Good X → Held (stored X)
-stored-held {X} G = record {
-  sized = record { four = refl; size1 = length-tab (X 1 .d); size2 = length-tab (X 2 .d); size3 = length-tab (X 3 .d) };
-  good = rw (complex-stored G) G;
-}
+stored-held {X} G = record { sized = stored-sized X; good = rw (complex-stored G) G }
 
 -- the pattern at exit
 abbrev pub left : Lent Applied → Pattern
@@ -30,6 +26,6 @@ left l = pattern (l .answer .counts) (l .m1) (l .m2) (l .m3)
 pub applied-held : {p : Pattern} {l : Lent Applied} (s : List ℕ) (o : Operator) → Held p → Formed s o
     → l ≡ applied p (step o (facesOf s o) (complex p)) → Held (left l)
 applied-held {p} s o H F e =
-    rw e (step-each (λ l. Held (left l)) (step o (facesOf s o) (complex p)) (λ r. H)
+    rw e (step-each (λ l. Held (left l)) (step o (facesOf s o) (complex p)) (λ r q. H)
     (λ S q. stored-held (edit-kept (H .good) s o F q .kept .good))
     (λ Y q. stored-held (removal-kept (H .good) s o F q .good)))

@@ -24,9 +24,8 @@ use Rattle.rules.specs.Edits.{layers, at3, put, make}
 use Rattle.rules.specs.Operators.{Faces, chainOf, allBelow, closed, makeStep}
 use Rattle.rules.specs.Calls.{Lent, lent, coefficients, applied}
 use Rattle.rules.proofs.Judged.{closes-rows}
-use Rattle.rules.proofs.Stored.{Sized}
+use Rattle.rules.proofs.Stored.{layer, Sized}
 use Rattle.rules.specs.Complex.{pattern}
-use Rattle.operators.specs.Boundary.{layer}
 use Rattle.operators.specs.Held.{Held}
 use Rattle.operators.specs.Append.{tried, setIf, appended, Storable, Closable, Appendable}
 

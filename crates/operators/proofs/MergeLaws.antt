@@ -10,7 +10,6 @@ use lib.IntN.{ℤ}
 use lib.Seq.{getD-set-other}
 use Rattle.maths.specs.Tables.{tab}
 use Rattle.maths.proofs.Cases.{lt-or}
-use Rattle.operators.specs.Boundary.{layer}
 use Rattle.grid.specs.Grid.{Line, UnitLine, over, removedColumn, removedRow}
 use Rattle.rules.specs.Counts.{countOf, shrunkAt}
 use Rattle.rules.specs.Refusals.{noSuchCell, notBetween, wrongSum}
@@ -18,10 +17,11 @@ use Rattle.rules.specs.Complex.{Pattern, Complex, Chain, complex, stored}
 use Rattle.rules.specs.Good.{oneEach}
 use Rattle.rules.specs.Edits.{at3, withoutColumn, withoutRow, merged, merge}
 use Rattle.rules.specs.Operators.{Outcome, refused, removed, proper, mergeStep}
-use Rattle.rules.proofs.Stored.{Sized}
+use Rattle.rules.proofs.Stored.{layer, Sized}
 use Rattle.rules.specs.Complex.{pattern}
+use Rattle.rules.proofs.Sides.{lower, higher}
 use Rattle.operators.specs.Cells.{Cell}
-use Rattle.operators.specs.Joins.{higher, lower, summed, sidesOf, Apart, Between}
+use Rattle.operators.specs.Joins.{summed, sidesOf, Apart, Between}
 use Rattle.operators.specs.declared.merge.Sides.{Sides}
 use Rattle.operators.proofs.Patterns.{count-at, Absent, stored-is, same1, same3, unit1, unit2, unit3, Refuses, Leaves}
 use Rattle.operators.proofs.Rows.{cells-met}

@@ -11,13 +11,14 @@ use lib.IntN.{ℤ, pos}
 use lib.ListN.{length, getD, set, length-set}
 use lib.Seq.{getD-set-same, getD-set-other}
 use Rattle.maths.specs.Tests.{all}
+use Rattle.maths.specs.Tables.{column}
 use Rattle.maths.proofs.Cases.{eqb-same, eq-or, by-bool}
 use Rattle.maths.proofs.Tables.{entries-in, is-table}
 use Rattle.grid.specs.Grid.{Blank}
 use Rattle.rules.specs.Complex.{Chain}
 use Rattle.rules.specs.Edits.{part}
 use Rattle.rules.specs.Operators.{Faces, listed}
-use Rattle.operators.specs.Part.{column, partOf}
+use Rattle.operators.specs.Part.{partOf}
 
 -- an entry of a column by its place
 pub column-entry : (m : List ℤ) (cell i : ℕ) → i < 96 → cell < 96 → getD m (96 * cell + i) (pos 0) ≡ column m cell i

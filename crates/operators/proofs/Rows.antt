@@ -18,7 +18,8 @@ use Rattle.rules.specs.Complex.{Chain}
 use Rattle.rules.specs.Good.{oneEach, allZero}
 use Rattle.rules.specs.Operators.{proper}
 use Rattle.rules.proofs.Judged.{one-each-true}
-use Rattle.operators.specs.Joins.{higher, lower, summed, sidesOf}
+use Rattle.rules.proofs.Sides.{lower, higher}
+use Rattle.operators.specs.Joins.{summed, sidesOf}
 use Rattle.operators.specs.declared.merge.Sides.{Sides}
 
 -- a is below b, and b is the number of a cell that the row v meets

@@ -1,6 +1,5 @@
 -- What the bytes of a split say of its list.
 use mathlib.Core.Path.{_≡_, sym, ap, _∙_}
-use mathlib.Core.Logic.{_≢_}
 use mathlib.Core.Bool.{true, false, cond}
 use mathlib.Core.List.{List}
 use Prim.Native.Nat.{ℕ, _+_, _<_, _≤_}
@@ -8,20 +7,16 @@ use native.Mathlib.Omega.{arith}
 use borrow.Author.Tests.{ne-eqb}
 use lib.Dec.{eqb}
 use lib.ListN.{length, getD}
-use Rattle.rules.specs.declared.form.Fault.{Fault}
 use Rattle.rules.specs.declared.form.OperatorForm.{OperatorForm}
 use Rattle.rules.specs.declared.operator.Operator.{Operator}
 use Rattle.rules.specs.Operators.{allBelow}
 use Rattle.rules.specs.Form.{after, byteAt, listAt, splitAt, chosenOf}
-use Rattle.rules.proofs.Fields.{after-got}
+use Rattle.rules.proofs.Fields.{bad-operator, after-got}
 use Rattle.rules.proofs.Listed.{list-says}
 use Rattle.rules.proofs.Faces.{all-below}
 use Rattle.operators.specs.Split.{SplitForm}
 use Rattle.operators.specs.Part.{ListForm, Choice, numbers}
 use Rattle.operators.proofs.Listing.{has-numbers}
-
-bad-operator : {o : Operator} {next : ℕ} (f : Fault) → OperatorForm.Bad f ≢ OperatorForm.Decoded o next
-bad-operator f e = let z : _≡_ {A = ℕ} 0 1 = cc in omega arith
 
 module _ {s : List ℕ} {dim cell list : ℕ} (S : SplitForm s dim cell list) where
   -- after the number there is a list

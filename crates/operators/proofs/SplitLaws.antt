@@ -6,7 +6,7 @@ use Prim.Native.Nat.{ℕ, suc, _-_, _≤_}
 use native.Mathlib.Omega.{arith}
 use lib.IntN.{ℤ}
 use lib.ListN.{length}
-use Rattle.maths.specs.Tables.{tab, entries}
+use Rattle.maths.specs.Tables.{entries, column, tab}
 use Rattle.maths.proofs.Tables.{tab-entries}
 use Rattle.rules.specs.Refusals.{accepted, wrongPart, wrongDivider}
 use Rattle.rules.specs.Counts.{countOf}
@@ -20,7 +20,6 @@ use Rattle.rules.specs.Complex.{pattern}
 use Rattle.operators.specs.Held.{Held}
 use Rattle.operators.specs.Split.{Fine, Splittable, Prepared, Around, around, divided, partStep, leaves}
 use Rattle.operators.specs.Boundary.{edge}
-use Rattle.operators.specs.Part.{column}
 
 -- two tests, each way told
 each-way : (p : Pattern) (f : Around → Lent ℕ) (a b : Bool) (x y z : Around) (S : ℕ → Step)

@@ -8,16 +8,16 @@ use native.Mathlib.Omega.{arith}
 use borrow.Author.Tests.{ne-eqb}
 use lib.IntN.{ℤ, pos, negsuc}
 use Rattle.maths.specs.Tests.{isZero}
-use Rattle.maths.specs.Tables.{Entries, entries}
+use Rattle.maths.specs.Tables.{Entries, entries, column}
 use Rattle.maths.proofs.Cases.{eqb-same, eq-or, by-bool}
 use Rattle.maths.proofs.Tables.{entries-tab, clip-in, tab-same}
 use Rattle.maths.proofs.Tests.{zero-is, zero-true}
 use Rattle.grid.specs.Grid.{over, withColumn, withEntry}
 use Rattle.rules.specs.Complex.{Chain, bare}
 use Rattle.rules.specs.Edits.{put, part, rest, halves}
-use Rattle.operators.specs.Boundary.{layer}
+use Rattle.rules.proofs.Stored.{layer}
 use Rattle.operators.specs.Split.{Halvable, Halved, withRest}
-use Rattle.operators.specs.Part.{column, partOf}
+use Rattle.operators.specs.Part.{partOf}
 use Rattle.operators.proofs.Lists.{holds}
 
 -- an entry of a matrix that a store left

@@ -1,17 +1,13 @@
--- The cells of a stored matrix, and the boundary of a chain of them: what the code that adds it up needs and gives.
+-- The boundary of a chain of cells of a stored matrix: what the code that adds it up needs and gives.
 use mathlib.Core.Path.{_≡_}
 use mathlib.Core.Bool.{Bool}
 use mathlib.Core.List.{List}
 use Prim.Native.Nat.{ℕ, pred, _≤_}
 use lib.IntN.{ℤ}
-use Rattle.maths.specs.Tables.{entries, table}
+use Rattle.maths.specs.Tables.{table}
 use Rattle.grid.specs.Grid.{columnSum, Summands}
-use Rattle.rules.specs.Complex.{Layer, Chain}
+use Rattle.rules.specs.Complex.{Chain}
 use Rattle.rules.specs.Operators.{divides}
-
--- the cells whose matrix is stored in m
-abbrev pub layer : ℕ → List ℤ → Layer
-layer n m = record { n = n; d = entries m }
 
 -- the boundary of a chain in a stored matrix, and as a list
 abbrev pub edge : List ℤ → Chain → Chain

@@ -1,26 +1,19 @@
 -- Merge in the one matrix that has the cell's row: what is tested there, and what it then holds.
 use mathlib.Core.Path.{_≡_}
-use mathlib.Core.Bool.{cond, not}
+use mathlib.Core.Bool.{cond}
 use mathlib.Core.List.{List}
 use Prim.Native.Nat.{ℕ, suc, _<_}
 use lib.IntN.{ℤ, _+ℤ_}
 use lib.ListN.{length}
-use Rattle.maths.specs.Tests.{isZero, last}
 use Rattle.maths.specs.Tables.{Entries}
 use Rattle.grid.specs.Grid.{Units, UnitLines}
 use Rattle.rules.specs.Refusals.{notBetween, wrongSum}
 use Rattle.rules.specs.Complex.{Pattern, Chain, complex}
 use Rattle.rules.specs.Good.{oneEach}
 use Rattle.rules.specs.Operators.{proper}
+use Rattle.rules.proofs.Sides.{lower, higher}
 use Rattle.operators.specs.Cells.{Cell}
 use Rattle.operators.specs.declared.merge.Sides.{Sides}
-
--- the last two places where a row is not 0
-abbrev pub higher : Chain → ℕ
-higher v = last 96 (λ j. not (isZero (v j)))
-
-abbrev pub lower : Chain → ℕ
-lower v = last (higher v) (λ j. not (isZero (v j)))
 
 -- the sum of columns a and b
 abbrev pub summed : Entries → ℕ → ℕ → Chain

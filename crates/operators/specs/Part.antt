@@ -6,7 +6,7 @@ use Prim.Native.Nat.{ℕ, _+_, _<_, _≤_}
 use lib.IntN.{ℤ, pos}
 use lib.ListN.{length, getD}
 use Rattle.maths.specs.Tests.{eqZ, isZero, all}
-use Rattle.maths.specs.Tables.{entries, table}
+use Rattle.maths.specs.Tables.{table}
 use Rattle.grid.specs.Grid.{Line, Blank}
 use Rattle.rules.specs.Complex.{Chain}
 use Rattle.rules.specs.Edits.{part}
@@ -30,10 +30,6 @@ pub record Numbers (s : List ℕ) (list : ℕ) : Type 0 where
 pub record Choice (s : List ℕ) (dim list : ℕ) : Type 0 where
   pub least : 1 ≤ dim
   pub numbered : 2 ≤ dim → Numbers s list
-
--- column j of a stored matrix
-abbrev pub column : List ℤ → ℕ → Chain
-column m j i = entries m i j
 
 -- a column, and zeros for a part of it
 pub record Takeable (m : List ℤ) (cell : ℕ) (taken : List ℤ) : Type 0 where

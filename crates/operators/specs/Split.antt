@@ -7,7 +7,7 @@ use lib.Dec.{eqb}
 use lib.IntN.{ℤ, pos}
 use lib.ListN.{length}
 use Rattle.maths.specs.Tests.{isZero}
-use Rattle.maths.specs.Tables.{Entries, entries, tab}
+use Rattle.maths.specs.Tables.{Entries, entries, column, tab}
 use Rattle.grid.specs.Grid.{Units, Lines, LineFor}
 use Rattle.rules.specs.declared.form.OperatorForm.{OperatorForm}
 use Rattle.rules.specs.declared.operator.Operator.{Operator}
@@ -17,9 +17,10 @@ use Rattle.rules.specs.Edits.{boundary, part, divider, halves, repeated, split}
 use Rattle.rules.specs.Operators.{Faces, chosen, isPart, divides, Outcome, edited, unless, afterStep}
 use Rattle.rules.specs.Form.{splitAt}
 use Rattle.rules.specs.Calls.{Lent, lent, coefficients}
-use Rattle.operators.specs.Boundary.{layer, edge}
+use Rattle.rules.proofs.Stored.{layer}
+use Rattle.operators.specs.Boundary.{edge}
 use Rattle.operators.specs.Held.{Held}
-use Rattle.operators.specs.Part.{Choice, column, partOf}
+use Rattle.operators.specs.Part.{Choice, partOf}
 
 -- the bytes up to `list`, and from it on, are those of a cell to be split
 pub record SplitForm (s : List ℕ) (dim cell list : ℕ) : Type 0 where

@@ -4,7 +4,7 @@ ghost use mathlib.Core.Bool.{not, _&&_};
 ghost use Rattle.rules.specs.Good.{allZero, closes};
 ghost use Rattle.rules.specs.Calls.{lent, coefficients};
 ghost use Rattle.rules.specs.Complex.{pattern};
-ghost use Rattle.operators.specs.Boundary.{layer};
+ghost use Rattle.rules.proofs.Stored.{layer};
 ghost use Rattle.operators.specs.Append.{tried, setIf, appended, Storable, Closable, Appendable};
 use grid::changes::set_column;
 use grid::runs::are_zero;

@@ -2,7 +2,6 @@
 ghost use mathlib.Core.Path.{_≡_};
 ghost use Prim.Native.Nat.{suc, _+_};
 ghost use Rattle.maths.specs.Tables.{entries, table, tab};
-ghost use Rattle.operators.specs.Boundary.{layer};
 ghost use Rattle.grid.specs.Grid.{Line, UnitLine, UnitLines};
 ghost use Rattle.rules.specs.Counts.{shrunkAt};
 ghost use Rattle.rules.specs.Complex.{complex, stored};
@@ -11,6 +10,7 @@ ghost use Rattle.rules.specs.Edits.{merged, merge};
 ghost use Rattle.rules.specs.Operators.{proper, mergeStep};
 ghost use Rattle.rules.specs.Calls.{lent, applied};
 ghost use Rattle.rules.specs.Complex.{pattern};
+ghost use Rattle.rules.proofs.Stored.{layer};
 ghost use Rattle.operators.specs.Held.{Held};
 ghost use Rattle.operators.specs.Cells.{Dimension, Cell};
 ghost use Rattle.operators.specs.Joins.{summed, sidesOf, Addends, Apart, Between};

@@ -1,12 +1,13 @@
 // Split: a cell's boundary is divided into a chosen part and the rest, by a new cell between its two halves.
 ghost use mathlib.Core.Path.{_≡_};
+ghost use Rattle.maths.specs.Tables.{column};
 ghost use Rattle.rules.specs.Complex.{complex};
 ghost use Rattle.rules.specs.Operators.{chosen, splitStep};
 ghost use Rattle.rules.specs.Form.{chosenOf};
 ghost use Rattle.rules.specs.Calls.{lent, applied};
 ghost use Rattle.rules.specs.Complex.{pattern};
 ghost use Rattle.operators.specs.Held.{Held};
-ghost use Rattle.operators.specs.Part.{Choice, column};
+ghost use Rattle.operators.specs.Part.{Choice};
 ghost use Rattle.operators.specs.Split.{SplitForm, Prepared, Splittable, around, divided, partStep, leaves};
 use crate::chosen::faces_below;
 use crate::chosen::take_part;

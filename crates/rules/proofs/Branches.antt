@@ -30,16 +30,11 @@ module _ {A : Type 0} (P : A → Type 0) where
   operator-each (OperatorForm.Decoded o next) h k = k o next refl
   operator-each (OperatorForm.Bad g) h k = h g
 
-  pub outcome-each : {bad : ℕ → A} {go : Complex → A} (o : Outcome) → ((r : ℕ) → o ≡ refused r → P (bad r)) →
+  pub step-each : {bad : ℕ → A} {go : Complex → A} (o : Outcome) → ((r : ℕ) → o ≡ refused r → P (bad r)) →
       ((S : ℕ → Step) → o ≡ edited S → P (go (layers S))) → ((Y : Complex) → o ≡ removed Y → P (go Y)) → P (afterStep o bad go)
-  outcome-each (refused r) h k l = h r refl
-  outcome-each (edited S) h k l = k S refl
-  outcome-each (removed Y) h k l = l Y refl
-
-  -- the same, however it is refused
-  pub step-each : {bad : ℕ → A} {go : Complex → A} (o : Outcome) → ((r : ℕ) → P (bad r)) →
-      ((S : ℕ → Step) → o ≡ edited S → P (go (layers S))) → ((Y : Complex) → o ≡ removed Y → P (go Y)) → P (afterStep o bad go)
-  step-each o h = outcome-each o (λ r _. h r)
+  step-each (refused r) h k l = h r refl
+  step-each (edited S) h k l = k S refl
+  step-each (removed Y) h k l = l Y refl
 
   pub carry-each : {bad : ℕ → A} {go : (ℕ → Step) → A} (o : Outcome) → ((r : ℕ) → o ≡ refused r → P (bad r)) → P (bad notCarried) →
       ((S : ℕ → Step) → o ≡ edited S → P (go S)) → P (afterCarry o bad go)

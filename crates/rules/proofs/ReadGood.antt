@@ -14,7 +14,7 @@ use Rattle.rules.specs.Operators.{step}
 use Rattle.rules.specs.Form.{byteAt, makeAt, facesOf, faultNumber}
 use Rattle.rules.specs.Mesh.{Reading, faulty, refused, taken, Place, corners, readCell, readSection, readMesh, afterReading}
 use Rattle.rules.proofs.Fields.{byte-says}
-use Rattle.rules.proofs.Branches.{after-each, operator-each, outcome-each}
+use Rattle.rules.proofs.Branches.{after-each, operator-each, step-each}
 use Rattle.rules.proofs.Numbers.{step-numbered, fault-numbered}
 use Rattle.rules.proofs.Decoded.{made}
 use Rattle.rules.proofs.Steps.{edit-kept, removal-kept}
@@ -62,7 +62,7 @@ module _ (s : List ℕ) where
   cells-sound k d go then (suc n) x G =
       operator-each Sound (makeAt s k (x .1)) (λ f. tt) λ o next e.
       let F = made s (x .1) k d e .1 in
-      outcome-each Sound (step o (facesOf s o) (x .0)) (step-numbered (facesOf s o) (x .0) o)
+      step-each Sound (step o (facesOf s o) (x .0)) (step-numbered (facesOf s o) (x .0) o)
       (λ S q. cells-sound k d go then n _ (edit-kept G s o F q .kept .good))
       (λ Y q. cells-sound k d go then n _ (removal-kept G s o F q .good))
 

@@ -43,7 +43,7 @@ apply-refused p s =
     let no : (r : ℕ) → P (lent (record { counts = p .counts; refusal = r }) p) = λ r n. record { counts = refl; matrices = same } in
     good-each P (sized p) (isGood (complex p))
     (λ l g. operator-each P (loneOperator s) (λ f. no (faultNumber f)) λ o next e.
-    step-each P (step o (facesOf s o) (complex p)) no (λ S q n. absurd (n refl)) (λ Y q n. absurd (n refl)))
+    step-each P (step o (facesOf s o) (complex p)) (λ r q. no r) (λ S q n. absurd (n refl)) (λ Y q n. absurd (n refl)))
     (no notGood) (no wrongLength)
 
 -- "An operator or script refused by 1 or 2 hands back the counts it was lent, changes no byte and accepts nothing."

@@ -47,7 +47,7 @@ module _ (s : List ℕ) where
   run-kept zero h G = stopped-here zero h G _
   run-kept (suc n) h G =
       operator-each (Ran s (suc n) h) (operatorAt s (h .at)) (λ f. stopped-here (suc n) h G (faultNumber f)) λ o next d.
-      step-each (Ran s (suc n) h) (step o (facesOf s o) (h .now)) (λ r. stopped-here (suc n) h G r)
+      step-each (Ran s (suc n) h) (step o (facesOf s o) (h .now)) (λ r q. stopped-here (suc n) h G r)
       (λ S q. let E = edit-kept G s o (decoded s (h .at) d .0) q in one-more d (E .kept) (run-kept n _ (E .kept .good)))
       (λ Y q. let K = removal-kept G s o (decoded s (h .at) d .0) q in one-more d K (run-kept n _ (K .good)))
 

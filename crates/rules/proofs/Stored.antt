@@ -6,15 +6,19 @@ use Prim.Native.Nat.{ℕ, zero, suc, _<_, _≤_}
 use native.Mathlib.Omega.{arith}
 use borrow.Author.Tests.{eq-eqb, eqb-true}
 use lib.Dec.{eqb}
-use lib.IntN.{pos}
+use lib.IntN.{ℤ, pos}
 use lib.ListN.{length, getD}
 use Rattle.maths.specs.Tables.{Entries, entries, tab}
 use Rattle.maths.proofs.Tables.{clip-keeps, entries-tab, tab-entries, length-tab}
 use Rattle.maths.proofs.Cases.{lt-or, and-left, and-right, and-both}
-use Rattle.rules.specs.Complex.{Pattern, Complex, complex, stored}
+use Rattle.rules.specs.Complex.{Pattern, Layer, Complex, complex, stored}
 use Rattle.rules.specs.Good.{Good}
 use Rattle.rules.specs.Calls.{sized}
 use Rattle.rules.proofs.Frame.{same-layer, within-rows, within-columns}
+
+-- the cells whose matrix is stored in m
+abbrev pub layer : ℕ → List ℤ → Layer
+layer n m = record { n = n; d = entries m }
 
 module _ {X : Complex} (G : Good X) where
   -- a matrix of a good pattern is 0 outside of 96 by 96
@@ -25,7 +29,7 @@ module _ {X : Complex} (G : Good X) where
   pub complex-stored : complex (stored X) ≡ X
   complex-stored = fun-ext at
     where
-      matrix : (k : ℕ) → record { n = X k .n; d = entries (tab (X k .d)) } ≡ X k
+      matrix : (k : ℕ) → layer (X k .n) (tab (X k .d)) ≡ X k
       matrix k = same-layer refl (λ i j. ap (λ (f : Entries). f i j) (entries-tab (X k .d) ∙ clip-keeps (outside k)))
 
       at : (k : ℕ) → complex (stored X) k ≡ X k

@@ -5,7 +5,7 @@ use borrow.Author.Needs.{needs}
 use borrow.Author.Tests.{not-true, not-false}
 use Rattle.rules.specs.Good.{allZero, closes}
 use Rattle.rules.specs.Calls.{coefficients}
-use Rattle.operators.specs.Boundary.{layer}
+use Rattle.rules.proofs.Stored.{layer}
 use Rattle.operators.proofs.Lists.{from-start}
 use Rattle.operators.proofs.Closing.{set-open, set-shut}
 use Rattle.operators.proofs.append.set_closed.Statement.{statement}

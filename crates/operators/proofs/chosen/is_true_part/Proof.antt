@@ -1,7 +1,7 @@
 -- `operators::chosen::is_true_part` meets its contract: the tests of its callees are those of the definition.
 use borrow.Author.Needs.{needs}
+use Rattle.maths.specs.Tables.{column}
 use denote.Ref.{now}
-use Rattle.operators.specs.Part.{column}
 use Rattle.operators.proofs.Choices.{true-then, true-else}
 use Rattle.operators.proofs.chosen.is_true_part.Statement.{statement}
 use Rattle.operators.proofs.chosen.is_true_part.Tie as tie

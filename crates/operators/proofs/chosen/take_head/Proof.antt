@@ -6,11 +6,12 @@ use native.Mathlib.Omega.{arith}
 use lib.IntN.{pos}
 use mir.Syntax.{w8}
 use Rattle.maths.specs.Tests.{eqZ}
+use Rattle.maths.specs.Tables.{column}
 use Rattle.maths.proofs.Sizes.{back}
 use Rattle.maths.proofs.Tables.{is-table}
 use Rattle.maths.proofs.Sweep.{Filled, filled-none, filled-more}
 use Rattle.rules.specs.Edits.{part}
-use Rattle.operators.specs.Part.{column, head}
+use Rattle.operators.specs.Part.{head}
 use Rattle.operators.proofs.Parts.{column-entry}
 use Rattle.operators.proofs.chosen.take_head.Statement.{statement}
 use Rattle.operators.proofs.chosen.take_head.Tie as tie

@@ -2,9 +2,10 @@
 use mathlib.Core.Path.{sym, _∙_}
 use Prim.Native.Nat.{_-_, _<_}
 use native.Mathlib.Omega.{arith}
+use Rattle.maths.specs.Tables.{column}
 use mir.Syntax.{w8}
 use Rattle.maths.proofs.Sizes.{back}
-use Rattle.operators.specs.Part.{numbers, column}
+use Rattle.operators.specs.Part.{numbers}
 use Rattle.operators.proofs.Parts.{column-entry, Marked, mark-begin, mark-more, mark-end}
 use Rattle.operators.proofs.chosen.take_listed.Statement.{statement}
 use Rattle.operators.proofs.chosen.take_listed.Tie as tie
