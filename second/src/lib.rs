@@ -1,5 +1,5 @@
 //! A second implementation of the chain rules for sewn-panel patterns,
-//! written from the document alone. Inside, a pattern is lists of sparse
+//! written from the document and not from the engine. Inside, a pattern is lists of sparse
 //! cells; matrices are seen only in `border`, where calls take and give them.
 
 mod border;
