@@ -1,4 +1,4 @@
-/* The deepest stack of each call on patterns at the limits: each runs on a stack of its own that was filled beforehand. */
+/* The deepest stack of each call on patterns at the limits, what its caller passes on the stack included. */
 #define _GNU_SOURCE
 #include "mbyasoka.h"
 #include <pthread.h>
@@ -16,9 +16,14 @@ static uint16_t ran;
 static int16_t euler;
 static uint8_t refusal;
 
+#if defined(__aarch64__)
+#define STACK_POINTER(p) __asm__ volatile("mov %0, sp" : "=r"(p))
+#elif defined(__x86_64__)
+#define STACK_POINTER(p) __asm__ volatile("mov %%rsp, %0" : "=r"(p))
+#endif
+
 #define LENT m1, sizeof m1, m2, sizeof m2, m3, sizeof m3
 
-static void *none(void *x) { return x; }
 static void *check(void *x) { refusal = mbyasoka_check(counts, LENT); return x; }
 static void *read_mesh(void *x) { refusal = mbyasoka_read_mesh(mesh, mesh_length, LENT, counts, &number); return x; }
 static void *write_mesh(void *x) { refusal = mbyasoka_write_mesh(counts, LENT, out, sizeof out, &number); return x; }
@@ -73,30 +78,36 @@ static void make_script(uint8_t n)
     }
 }
 
-static size_t deepest(void *(*call)(void *))
+static void *(*call)(void *);
+static size_t deepest;
+
+/* Fills the stack below itself, calls, and looks how far down it was written to; all with no other call in between. */
+static void *measured(void *x)
 {
-    pthread_attr_t attributes;
-    pthread_t thread;
-    size_t at = 0;
-    memset(stack, FILL, sizeof stack);
-    pthread_attr_init(&attributes);
-    if (pthread_attr_setstack(&attributes, stack, sizeof stack) || pthread_create(&thread, &attributes, call, NULL))
-        return 0;
-    pthread_join(thread, NULL);
-    while (at < sizeof stack && stack[at] == FILL)
-        at++;
-    return sizeof stack - at;
+    volatile uint8_t *top, *at;
+    STACK_POINTER(top);
+    for (at = stack; at < top; at++)
+        *at = FILL;
+    call(x);
+    for (at = stack; at < top && *at == FILL; at++)
+        ;
+    deepest = (size_t)(top - at);
+    return x;
 }
 
 static int failed;
 
-static void row(const char *name, void *(*call)(void *))
+static void row(const char *name, void *(*measure)(void *))
 {
-    /* what a thread itself takes, once the loader has found its functions */
-    size_t thread = (deepest(none), deepest(none)), all = deepest(call);
-    if (refusal != 0 || all <= thread)
+    pthread_attr_t attributes;
+    pthread_t thread;
+    call = measure;
+    pthread_attr_init(&attributes);
+    if (pthread_attr_setstack(&attributes, stack, sizeof stack) || pthread_create(&thread, &attributes, measured, NULL) || pthread_join(thread, NULL))
         failed = 1;
-    printf("| %s | %zu |\n", name, all - thread);
+    if (refusal != 0)
+        failed = 1;
+    printf("| %s | %zu |\n", name, deepest);
 }
 
 int main(void)

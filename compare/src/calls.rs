@@ -1,10 +1,11 @@
-//! One comparison for each call: answers, and every byte that was lent to be written.
+//! One comparison for each call: answers, and every byte that was lent, to be written or only to be read.
 
 use crate::coverage::{call_name, Call, Coverage};
 use crate::lending::{hex, lend, Twice};
 use crate::patterns::Pattern;
 use mbyasoka::calls as engine;
 use std::fmt::Debug;
+use std::hint::black_box;
 use std::io::Write;
 
 pub struct Comparison {
@@ -41,6 +42,18 @@ fn chain_text(chain: &Chain) -> String {
 
 fn lent(pattern: &Pattern) -> [&[i8]; 3] {
     pattern.matrices.each_ref().map(Vec::as_slice)
+}
+
+const NO_MATRICES: [&[i8]; 3] = [&[]; 3];
+
+/// Asked after a call: whether it changed what it was only to read.
+fn kept<'a>(matrices: [&'a [i8]; 3], bytes: &'a [u8], chain: &'a [i32]) -> impl Fn() -> Option<String> + 'a {
+    let before = (matrices.map(<[i8]>::to_vec), bytes.to_vec(), chain.to_vec());
+    move || {
+        let matrices_kept = black_box(matrices).iter().zip(&before.0).all(|(now, before)| now == before);
+        let all_kept = matrices_kept && before.1 == black_box(bytes) && before.2 == black_box(chain);
+        (!all_kept).then(|| "what was only to be read".to_string())
+    }
 }
 
 fn twice(pattern: &Pattern) -> [Twice<i8>; 3] {
@@ -87,50 +100,57 @@ impl Comparison {
     }
 
     pub fn check(&mut self, pattern: &Pattern) {
+        let kept = kept(lent(pattern), &[], &[]);
         let [m1, m2, m3] = lent(pattern);
         let first = engine::check(pattern.counts, [m1, m2, m3]);
         let second = second::check(pattern.counts, m1, m2, m3);
-        self.judge(Call::Check, [first, second], None, || pattern_text(pattern));
+        self.judge(Call::Check, [first, second], kept(), || pattern_text(pattern));
         self.coverage.answer(Call::Check, first);
     }
 
     pub fn euler(&mut self, pattern: &Pattern) {
+        let kept = kept(lent(pattern), &[], &[]);
         let [m1, m2, m3] = lent(pattern);
         let first = engine::euler(pattern.counts, [m1, m2, m3]);
         let second = second::euler(pattern.counts, m1, m2, m3);
-        self.judge(Call::Euler, [first, second], None, || pattern_text(pattern));
+        self.judge(Call::Euler, [first, second], kept(), || pattern_text(pattern));
         self.coverage.answer(Call::Euler, first.0);
     }
 
     /// Reads over whatever the matrices of `over` hold.
     pub fn read_mesh(&mut self, bytes: &[u8], over: &Pattern) {
+        let kept = kept(NO_MATRICES, bytes, &[]);
         let mut matrices = twice(over);
         let [ours, [m1, m2, m3]] = lend(&mut matrices);
         let first = engine::read_mesh(bytes, ours);
         let second = second::read_mesh(bytes, m1, m2, m3);
-        self.judge(Call::ReadMesh, [first, second], differing(&matrices), || {
+        self.judge(Call::ReadMesh, [first, second], kept().or_else(|| differing(&matrices)), || {
             format!("  bytes {}\n  over {}", hex(bytes), pattern_text(over))
         });
         self.coverage.answer(Call::ReadMesh, first.0);
     }
 
     pub fn write_mesh(&mut self, pattern: &Pattern, out: &[u8]) {
+        let kept = kept(lent(pattern), &[], &[]);
         let [m1, m2, m3] = lent(pattern);
         let mut outs = Twice::of(out);
         let [ours, theirs] = outs.lent();
         let first = engine::write_mesh(pattern.counts, [m1, m2, m3], ours);
         let second = second::write_mesh(pattern.counts, m1, m2, m3, theirs);
-        self.judge(Call::WriteMesh, [first, second], outs.difference("out"), || format!("{}  out {}\n", pattern_text(pattern), hex(out)));
+        self.judge(Call::WriteMesh, [first, second], kept().or_else(|| outs.difference("out")), || {
+            format!("{}  out {}\n", pattern_text(pattern), hex(out))
+        });
         self.coverage.answer(Call::WriteMesh, first.0);
     }
 
     /// Answers the pattern as the call left it.
     pub fn apply_operator(&mut self, pattern: &Pattern, bytes: &[u8]) -> Pattern {
+        let kept = kept(NO_MATRICES, bytes, &[]);
         let mut matrices = twice(pattern);
         let [ours, [m1, m2, m3]] = lend(&mut matrices);
         let first = engine::apply_operator(pattern.counts, ours, bytes);
         let second = second::apply_operator(pattern.counts, m1, m2, m3, bytes);
-        self.judge(Call::ApplyOperator, [first, second], differing(&matrices), || {
+        self.judge(Call::ApplyOperator, [first, second], kept().or_else(|| differing(&matrices)), || {
             format!("{}  operator {}\n", pattern_text(pattern), hex(bytes))
         });
         self.coverage.answer(Call::ApplyOperator, first.0);
@@ -142,11 +162,12 @@ impl Comparison {
 
     /// Answers the pattern as the call left it.
     pub fn run_script(&mut self, pattern: &Pattern, bytes: &[u8]) -> Pattern {
+        let kept = kept(NO_MATRICES, bytes, &[]);
         let mut matrices = twice(pattern);
         let [ours, [m1, m2, m3]] = lend(&mut matrices);
         let first = engine::run_script(pattern.counts, ours, bytes);
         let second = second::run_script(pattern.counts, m1, m2, m3, bytes);
-        self.judge(Call::RunScript, [first, second], differing(&matrices), || {
+        self.judge(Call::RunScript, [first, second], kept().or_else(|| differing(&matrices)), || {
             format!("{}  script {}\n", pattern_text(pattern), hex(bytes))
         });
         self.coverage.answer(Call::RunScript, first.0);
@@ -155,24 +176,28 @@ impl Comparison {
     }
 
     pub fn boundary(&mut self, pattern: &Pattern, chain: &Chain) {
+        let kept = kept(lent(pattern), &[], chain.coefficients);
         let [m1, m2, m3] = lent(pattern);
         let (dimension, own) = (chain.dimension, chain.coefficients);
         let mut outs = Twice::of(chain.out);
         let [ours, theirs] = outs.lent();
         let first = engine::boundary(pattern.counts, [m1, m2, m3], dimension, own, ours);
         let second = second::boundary(pattern.counts, m1, m2, m3, dimension, own, theirs);
-        self.judge(Call::Boundary, [first, second], outs.difference("out"), || pattern_text(pattern) + &chain_text(chain));
+        self.judge(Call::Boundary, [first, second], kept().or_else(|| outs.difference("out")), || {
+            pattern_text(pattern) + &chain_text(chain)
+        });
         self.coverage.answer(Call::Boundary, first);
     }
 
     pub fn carry(&mut self, pattern: &Pattern, bytes: &[u8], chain: &Chain) {
+        let kept = kept(lent(pattern), bytes, chain.coefficients);
         let [m1, m2, m3] = lent(pattern);
         let (dimension, own) = (chain.dimension, chain.coefficients);
         let mut outs = Twice::of(chain.out);
         let [ours, theirs] = outs.lent();
         let first = engine::carry(pattern.counts, [m1, m2, m3], bytes, dimension, own, ours);
         let second = second::carry(pattern.counts, m1, m2, m3, bytes, dimension, own, theirs);
-        self.judge(Call::Carry, [first, second], outs.difference("out"), || {
+        self.judge(Call::Carry, [first, second], kept().or_else(|| outs.difference("out")), || {
             let operator = hex(bytes);
             format!("{}  operator {operator}\n{}", pattern_text(pattern), chain_text(chain))
         });

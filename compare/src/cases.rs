@@ -11,6 +11,13 @@ pub struct Case {
     pub printed: String,
 }
 
+impl Case {
+    /// What the second program prints for an input.
+    pub fn by_second(input: Vec<u8>) -> Self {
+        Case { printed: second::printed(&input), input }
+    }
+}
+
 fn bytes(hex: &str) -> Option<Vec<u8>> {
     let pairs = hex.split(' ').map(|pair| u8::from_str_radix(pair, 16));
     pairs.collect::<Result<_, _>>().ok()

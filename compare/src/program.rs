@@ -1,9 +1,10 @@
-//! `compare program COMMAND [ARGS...]`: a program `pattern` against the text the second one prints.
+//! `compare program COMMAND [ARGS...]`: a program `pattern` against the table of proved cases and the text the second one prints.
 
+use crate::cases::{self, Case};
 use crate::inputs;
 use crate::lending::hex;
 use crate::random::Random;
-use second::{printed, INPUT_LIMIT};
+use second::INPUT_LIMIT;
 use std::fs::File;
 use std::io::{self, Read, Seek, Write};
 use std::process::{Child, Command, ExitCode, Stdio};
@@ -62,8 +63,7 @@ fn taken(command: &[String], input: &[u8]) -> io::Result<u64> {
     file.stream_position()
 }
 
-fn differs(input: &[u8], chunk: usize, text: &[u8]) -> bool {
-    let expected = printed(input);
+fn differs(Case { input, printed: expected }: &Case, chunk: usize, text: &[u8]) -> bool {
     if text == expected.as_bytes() {
         return false;
     }
@@ -71,20 +71,21 @@ fn differs(input: &[u8], chunk: usize, text: &[u8]) -> bool {
     println!("DIFFERENCE at byte {} of the printed result, chunks of {chunk}", same.count());
     println!("  input {}", hex(input));
     println!("  program: {:?}", String::from_utf8_lossy(text));
-    println!("  second:  {expected:?}");
+    println!("  expected: {expected:?}");
     true
 }
 
 pub fn compare(command: &[String]) -> io::Result<ExitCode> {
     let mut random = Random::new(7);
-    let mut all = inputs::all_at_limits();
-    all.extend(inputs::mixed(&mut random, MIXED, 40_000));
-    for (at, input) in all.iter().enumerate() {
+    let mut all = cases::table()?;
+    let generated = inputs::all_at_limits().into_iter().chain(inputs::mixed(&mut random, MIXED, 40_000));
+    all.extend(generated.map(Case::by_second));
+    for (at, case) in all.iter().enumerate() {
         let chunk = match CHUNKS[at % CHUNKS.len()] {
-            small if input.len() / small > 5_000 => 509,
+            small if case.input.len() / small > 5_000 => 509,
             chunk => chunk,
         };
-        if differs(input, chunk, &through_pipe(command, input, chunk)?) {
+        if differs(case, chunk, &through_pipe(command, &case.input, chunk)?) {
             return Ok(ExitCode::FAILURE);
         }
     }

@@ -7,227 +7,93 @@ pub type Counts = [u8; 4];
 pub type Matrices<'a> = [&'a [i8]; 3];
 pub type MatricesMut<'a> = [&'a mut [i8]; 3];
 
+#[rustfmt::skip]
 mod raw {
     extern "C" {
         pub fn mbyasoka_check(counts: *const [u8; 4], m1: *const i8, l1: usize, m2: *const i8, l2: usize, m3: *const i8, l3: usize) -> u8;
         pub fn mbyasoka_read_mesh(
-            bytes: *const u8,
-            length: usize,
-            m1: *mut i8,
-            l1: usize,
-            m2: *mut i8,
-            l2: usize,
-            m3: *mut i8,
-            l3: usize,
-            counts: *mut [u8; 4],
-            used: *mut usize,
+            bytes: *const u8, length: usize, m1: *mut i8, l1: usize, m2: *mut i8, l2: usize, m3: *mut i8, l3: usize,
+            counts: *mut [u8; 4], used: *mut usize,
         ) -> u8;
         pub fn mbyasoka_write_mesh(
-            counts: *const [u8; 4],
-            m1: *const i8,
-            l1: usize,
-            m2: *const i8,
-            l2: usize,
-            m3: *const i8,
-            l3: usize,
-            out: *mut u8,
-            room: usize,
-            written: *mut usize,
+            counts: *const [u8; 4], m1: *const i8, l1: usize, m2: *const i8, l2: usize, m3: *const i8, l3: usize,
+            out: *mut u8, room: usize, written: *mut usize,
         ) -> u8;
         pub fn mbyasoka_euler(
-            counts: *const [u8; 4],
-            m1: *const i8,
-            l1: usize,
-            m2: *const i8,
-            l2: usize,
-            m3: *const i8,
-            l3: usize,
-            number: *mut i16,
+            counts: *const [u8; 4], m1: *const i8, l1: usize, m2: *const i8, l2: usize, m3: *const i8, l3: usize, number: *mut i16,
         ) -> u8;
         pub fn mbyasoka_apply_operator(
-            counts: *mut [u8; 4],
-            m1: *mut i8,
-            l1: usize,
-            m2: *mut i8,
-            l2: usize,
-            m3: *mut i8,
-            l3: usize,
-            bytes: *const u8,
-            length: usize,
+            counts: *mut [u8; 4], m1: *mut i8, l1: usize, m2: *mut i8, l2: usize, m3: *mut i8, l3: usize,
+            bytes: *const u8, length: usize,
         ) -> u8;
         pub fn mbyasoka_run_script(
-            counts: *mut [u8; 4],
-            m1: *mut i8,
-            l1: usize,
-            m2: *mut i8,
-            l2: usize,
-            m3: *mut i8,
-            l3: usize,
-            bytes: *const u8,
-            length: usize,
-            ran: *mut u16,
+            counts: *mut [u8; 4], m1: *mut i8, l1: usize, m2: *mut i8, l2: usize, m3: *mut i8, l3: usize,
+            bytes: *const u8, length: usize, ran: *mut u16,
         ) -> u8;
         pub fn mbyasoka_boundary(
-            counts: *const [u8; 4],
-            m1: *const i8,
-            l1: usize,
-            m2: *const i8,
-            l2: usize,
-            m3: *const i8,
-            l3: usize,
-            dimension: u8,
-            chain: *const i32,
-            chain_length: usize,
-            out: *mut i32,
-            room: usize,
+            counts: *const [u8; 4], m1: *const i8, l1: usize, m2: *const i8, l2: usize, m3: *const i8, l3: usize,
+            dimension: u8, chain: *const i32, chain_length: usize, out: *mut i32, room: usize,
         ) -> u8;
         pub fn mbyasoka_carry(
-            counts: *const [u8; 4],
-            m1: *const i8,
-            l1: usize,
-            m2: *const i8,
-            l2: usize,
-            m3: *const i8,
-            l3: usize,
-            bytes: *const u8,
-            length: usize,
-            dimension: u8,
-            chain: *const i32,
-            chain_length: usize,
-            out: *mut i32,
-            room: usize,
+            counts: *const [u8; 4], m1: *const i8, l1: usize, m2: *const i8, l2: usize, m3: *const i8, l3: usize,
+            bytes: *const u8, length: usize, dimension: u8, chain: *const i32, chain_length: usize, out: *mut i32, room: usize,
         ) -> u8;
     }
 }
 
-// Safety of every call below: each pointer and length is that of a slice or a place that lives through the call, places that are
-// written to are lent by `&mut` alone, and the engine is proved to stay inside what it is lent.
+/// A call: what stands before the matrices, the matrices, each by its pointer and its length, and what stands after them.
+///
+/// Safety: each pointer and length below is that of a slice or a place that lives through the call, places that are written to are lent
+/// by `&mut` alone, and the engine is proved to stay inside what it is lent.
+macro_rules! call {
+    ($name:ident, [$($before:expr),*], $pointer:ident [$($matrix:ident),*], [$($after:expr),*]) => {
+        unsafe { raw::$name($($before,)* $($matrix.$pointer(), $matrix.len(),)* $($after),*) }
+    };
+}
 
 pub fn check(counts: Counts, [m1, m2, m3]: Matrices) -> u8 {
-    unsafe { raw::mbyasoka_check(&counts, m1.as_ptr(), m1.len(), m2.as_ptr(), m2.len(), m3.as_ptr(), m3.len()) }
+    call!(mbyasoka_check, [&counts], as_ptr [m1, m2, m3], [])
 }
 
 /// Refusal, counts, bytes used.
 pub fn read_mesh(bytes: &[u8], [m1, m2, m3]: MatricesMut) -> (u8, Counts, usize) {
     let (mut counts, mut used) = ([0; 4], 0);
-    let refusal = unsafe {
-        raw::mbyasoka_read_mesh(
-            bytes.as_ptr(),
-            bytes.len(),
-            m1.as_mut_ptr(),
-            m1.len(),
-            m2.as_mut_ptr(),
-            m2.len(),
-            m3.as_mut_ptr(),
-            m3.len(),
-            &mut counts,
-            &mut used,
-        )
-    };
+    let refusal = call!(mbyasoka_read_mesh, [bytes.as_ptr(), bytes.len()], as_mut_ptr [m1, m2, m3], [&mut counts, &mut used]);
     (refusal, counts, used)
 }
 
 /// Refusal, bytes written.
 pub fn write_mesh(counts: Counts, [m1, m2, m3]: Matrices, out: &mut [u8]) -> (u8, usize) {
     let mut written = 0;
-    let refusal = unsafe {
-        raw::mbyasoka_write_mesh(
-            &counts,
-            m1.as_ptr(),
-            m1.len(),
-            m2.as_ptr(),
-            m2.len(),
-            m3.as_ptr(),
-            m3.len(),
-            out.as_mut_ptr(),
-            out.len(),
-            &mut written,
-        )
-    };
+    let refusal = call!(mbyasoka_write_mesh, [&counts], as_ptr [m1, m2, m3], [out.as_mut_ptr(), out.len(), &mut written]);
     (refusal, written)
 }
 
 /// Refusal, Euler number.
 pub fn euler(counts: Counts, [m1, m2, m3]: Matrices) -> (u8, i16) {
     let mut number = 0;
-    let refusal = unsafe { raw::mbyasoka_euler(&counts, m1.as_ptr(), m1.len(), m2.as_ptr(), m2.len(), m3.as_ptr(), m3.len(), &mut number) };
+    let refusal = call!(mbyasoka_euler, [&counts], as_ptr [m1, m2, m3], [&mut number]);
     (refusal, number)
 }
 
 /// Refusal, counts.
 pub fn apply_operator(mut counts: Counts, [m1, m2, m3]: MatricesMut, bytes: &[u8]) -> (u8, Counts) {
-    let refusal = unsafe {
-        raw::mbyasoka_apply_operator(
-            &mut counts,
-            m1.as_mut_ptr(),
-            m1.len(),
-            m2.as_mut_ptr(),
-            m2.len(),
-            m3.as_mut_ptr(),
-            m3.len(),
-            bytes.as_ptr(),
-            bytes.len(),
-        )
-    };
+    let refusal = call!(mbyasoka_apply_operator, [&mut counts], as_mut_ptr [m1, m2, m3], [bytes.as_ptr(), bytes.len()]);
     (refusal, counts)
 }
 
 /// Refusal, counts, operators accepted.
 pub fn run_script(mut counts: Counts, [m1, m2, m3]: MatricesMut, bytes: &[u8]) -> (u8, Counts, u16) {
     let mut ran = 0;
-    let refusal = unsafe {
-        raw::mbyasoka_run_script(
-            &mut counts,
-            m1.as_mut_ptr(),
-            m1.len(),
-            m2.as_mut_ptr(),
-            m2.len(),
-            m3.as_mut_ptr(),
-            m3.len(),
-            bytes.as_ptr(),
-            bytes.len(),
-            &mut ran,
-        )
-    };
+    let refusal = call!(mbyasoka_run_script, [&mut counts], as_mut_ptr [m1, m2, m3], [bytes.as_ptr(), bytes.len(), &mut ran]);
     (refusal, counts, ran)
 }
 
 pub fn boundary(counts: Counts, [m1, m2, m3]: Matrices, dimension: u8, chain: &[i32], out: &mut [i32]) -> u8 {
-    unsafe {
-        raw::mbyasoka_boundary(
-            &counts,
-            m1.as_ptr(),
-            m1.len(),
-            m2.as_ptr(),
-            m2.len(),
-            m3.as_ptr(),
-            m3.len(),
-            dimension,
-            chain.as_ptr(),
-            chain.len(),
-            out.as_mut_ptr(),
-            out.len(),
-        )
-    }
+    call!(mbyasoka_boundary, [&counts], as_ptr [m1, m2, m3], [dimension, chain.as_ptr(), chain.len(), out.as_mut_ptr(), out.len()])
 }
 
 pub fn carry(counts: Counts, [m1, m2, m3]: Matrices, bytes: &[u8], dimension: u8, chain: &[i32], out: &mut [i32]) -> u8 {
-    unsafe {
-        raw::mbyasoka_carry(
-            &counts,
-            m1.as_ptr(),
-            m1.len(),
-            m2.as_ptr(),
-            m2.len(),
-            m3.as_ptr(),
-            m3.len(),
-            bytes.as_ptr(),
-            bytes.len(),
-            dimension,
-            chain.as_ptr(),
-            chain.len(),
-            out.as_mut_ptr(),
-            out.len(),
-        )
-    }
+    let (lent, length) = (bytes.as_ptr(), bytes.len());
+    call!(mbyasoka_carry, [&counts], as_ptr [m1, m2, m3], [lent, length, dimension, chain.as_ptr(), chain.len(), out.as_mut_ptr(), out.len()])
 }
