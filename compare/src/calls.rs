@@ -5,7 +5,6 @@ use crate::lending::{hex, lend, Twice};
 use crate::patterns::Pattern;
 use mbyasoka::calls as engine;
 use std::fmt::Debug;
-use std::hint::black_box;
 use std::io::Write;
 
 pub struct Comparison {
@@ -41,7 +40,8 @@ fn chain_text(chain: &Chain) -> String {
 }
 
 fn lent(pattern: &Pattern) -> [&[i8]; 3] {
-    pattern.matrices.each_ref().map(Vec::as_slice)
+    let [m1, m2, m3] = &pattern.matrices;
+    [m1, m2, m3]
 }
 
 const NO_MATRICES: [&[i8]; 3] = [&[]; 3];
@@ -50,8 +50,8 @@ const NO_MATRICES: [&[i8]; 3] = [&[]; 3];
 fn kept<'a>(matrices: [&'a [i8]; 3], bytes: &'a [u8], chain: &'a [i32]) -> impl Fn() -> Option<String> + 'a {
     let before = (matrices.map(<[i8]>::to_vec), bytes.to_vec(), chain.to_vec());
     move || {
-        let matrices_kept = black_box(matrices).iter().zip(&before.0).all(|(now, before)| now == before);
-        let all_kept = matrices_kept && before.1 == black_box(bytes) && before.2 == black_box(chain);
+        let matrices_kept = matrices.iter().zip(&before.0).all(|(now, before)| now == before);
+        let all_kept = matrices_kept && before.1 == bytes && before.2 == chain;
         (!all_kept).then(|| "what was only to be read".to_string())
     }
 }

@@ -1,5 +1,6 @@
 //! The table of proved cases, read from the definitions: the same rows that are proved are run.
 
+use crate::fault;
 use std::fs::read_to_string;
 use std::io;
 
@@ -43,7 +44,7 @@ fn row(line: &str, triangle: &str) -> Option<Case> {
 
 pub fn table() -> io::Result<Vec<Case>> {
     let text = read_to_string(TABLE)?;
-    let unread = || io::Error::other("the table of cases cannot be read");
+    let unread = || fault("the table of cases cannot be read");
     let triangle = text.lines().find(|line| line.starts_with("T = "));
     let triangle = triangle.and_then(|line| quoted(line).next());
     let triangle = triangle.ok_or_else(unread)?;

@@ -2,6 +2,7 @@
 //! cases come first, with the lines that are proved; then generated inputs, with what the second program prints.
 
 use crate::cases::{self, Case};
+use crate::fault;
 use crate::inputs;
 use crate::random::Random;
 use second::printed;
@@ -16,7 +17,7 @@ const MIXED: usize = 246;
 fn all_cases() -> io::Result<Vec<Case>> {
     let mut all = cases::table()?;
     if all.iter().any(|case| printed(&case.input) != case.printed) {
-        return Err(io::Error::other("the table of cases is not what is printed"));
+        return Err(fault("the table of cases is not what is printed"));
     }
     let mut generated = inputs::mixed(&mut Random::new(11), MIXED, 1_500);
     generated.extend(inputs::few_at_limits());

@@ -19,10 +19,9 @@ impl<T: Copy + From<bool> + PartialEq + Debug> Twice<T> {
     }
 
     pub fn lent(&mut self) -> [&mut [T]; 2] {
-        self.both.each_mut().map(|whole| {
-            let end = whole.len() - MARGIN;
-            &mut whole[MARGIN..end]
-        })
+        let [engine, second] = &mut self.both;
+        let end = engine.len() - MARGIN;
+        [&mut engine[MARGIN..end], &mut second[MARGIN..end]]
     }
 
     /// What the engine left in its buffer.
@@ -41,7 +40,8 @@ impl<T: Copy + From<bool> + PartialEq + Debug> Twice<T> {
 
 /// The three matrices, lent to the engine and to the second program.
 pub fn lend(matrices: &mut [Twice<i8>; 3]) -> [[&mut [i8]; 3]; 2] {
-    let [[a, x], [b, y], [c, z]] = matrices.each_mut().map(|matrix| matrix.lent());
+    let [m1, m2, m3] = matrices;
+    let ([a, x], [b, y], [c, z]) = (m1.lent(), m2.lent(), m3.lent());
     [[a, b, c], [x, y, z]]
 }
 
@@ -49,12 +49,15 @@ pub fn lend(matrices: &mut [Twice<i8>; 3]) -> [[&mut [i8]; 3]; 2] {
 pub fn hex<T: LowerHex + PartialEq>(entries: &[T]) -> String {
     let width = 2 * std::mem::size_of::<T>();
     let mut words = Vec::new();
-    for run in entries.chunk_by(|one, next| one == next) {
-        let word = format!("{:0width$x}", run[0]);
-        match run.len() {
-            1..4 => words.extend(vec![word; run.len()]),
+    let mut rest = entries;
+    while let Some(first) = rest.first() {
+        let run = rest.iter().take_while(|entry| *entry == first).count();
+        let word = format!("{first:0width$x}");
+        match run {
+            1..=3 => words.extend(vec![word; run]),
             many => words.push(format!("{word}*{many}")),
         }
+        rest = &rest[run..];
     }
     format!("({} long) {}", entries.len(), words.join(" "))
 }

@@ -28,6 +28,11 @@ use std::io;
 use std::process::ExitCode;
 use sweeps::Sweeps;
 
+/// What cannot be gone on with.
+fn fault(text: &str) -> io::Error {
+    io::Error::new(io::ErrorKind::Other, text)
+}
+
 const CALLS: u64 = 240_000;
 const SEED: u64 = 1;
 const USAGE: &str = "[CALLS] [SEED] | program COMMAND [ARGS...] | corpus FOLDER [--check]";
@@ -51,8 +56,9 @@ fn compare(calls: u64, seed: u64) -> ExitCode {
         let second = scope.spawn(|| half(false, calls / 2, seed));
         (half(true, calls - calls / 2, seed), second.join())
     });
-    let Ok(second) = second else {
-        return ExitCode::FAILURE;
+    let second = match second {
+        Ok(second) => second,
+        Err(_) => return ExitCode::FAILURE,
     };
     let calls = first.calls + second.calls;
     let mut coverage = first.coverage;
@@ -86,7 +92,7 @@ fn main() -> ExitCode {
         ["program", _, ..] => program::compare(&words[1..]),
         ["corpus", folder] => corpus::write_or_check(folder, false),
         ["corpus", folder, "--check"] => corpus::write_or_check(folder, true),
-        _ => calls_and_seed(&named).ok_or_else(|| io::Error::other(USAGE)),
+        _ => calls_and_seed(&named).ok_or_else(|| fault(USAGE)),
     };
     ended.unwrap_or_else(|error| {
         eprintln!("compare: {error}");

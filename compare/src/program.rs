@@ -1,6 +1,7 @@
 //! `compare program COMMAND [ARGS...]`: a program `pattern` against the table of proved cases and the text the second one prints.
 
 use crate::cases::{self, Case};
+use crate::fault;
 use crate::inputs;
 use crate::lending::hex;
 use crate::random::Random;
@@ -22,13 +23,12 @@ fn started(command: &[String], input: Stdio) -> io::Result<Child> {
 /// What the program prints when its input comes in chunks through a pipe.
 fn through_pipe(command: &[String], input: &[u8], chunk: usize) -> io::Result<Vec<u8>> {
     let mut child = started(command, Stdio::piped())?;
-    let pipe = child.stdin.take();
+    let mut pipe = child.stdin.take();
     std::thread::scope(|scope| {
         scope.spawn(move || {
-            let Some(mut pipe) = pipe else { return };
             for (at, bytes) in input.chunks(chunk).enumerate() {
                 // The program may have gone when it has taken all that it takes.
-                if pipe.write_all(bytes).is_err() {
+                if pipe.as_mut().map_or(true, |pipe| pipe.write_all(bytes).is_err()) {
                     return;
                 }
                 // A pause lets the program read a chunk alone.
@@ -49,7 +49,7 @@ fn ended(mut child: Child) -> io::Result<Vec<u8>> {
     let status = child.wait()?;
     match status.success() {
         true => Ok(text),
-        false => Err(io::Error::other(format!("the program ended with {status}"))),
+        false => Err(fault(&format!("the program ended with {status}"))),
     }
 }
 

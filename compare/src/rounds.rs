@@ -44,14 +44,14 @@ impl<'a> Rounds<'a> {
         let sound = self.pool[at].clone();
         let pattern = lent(&mut self.random, &sound);
         match self.random.below(100) {
-            0..20 => self.grow(at, size),
-            20..40 => self.operator(&pattern, &sound),
-            40..52 => self.read(&pattern, &sound),
-            52..59 => self.write(&pattern),
-            59..64 => self.comparison.check(&pattern),
-            64..67 => self.comparison.euler(&pattern),
-            67..79 => self.script(&pattern, &sound, size),
-            79..88 => self.boundary(&pattern),
+            0..=19 => self.grow(at, size),
+            20..=39 => self.operator(&pattern, &sound),
+            40..=51 => self.read(&pattern, &sound),
+            52..=58 => self.write(&pattern),
+            59..=63 => self.comparison.check(&pattern),
+            64..=66 => self.comparison.euler(&pattern),
+            67..=78 => self.script(&pattern, &sound, size),
+            79..=87 => self.boundary(&pattern),
             _ => self.carry(&pattern, &sound),
         }
     }

@@ -126,10 +126,7 @@ impl Pattern {
     pub fn boundary_of(&self, dim: usize, list: &[Face]) -> BTreeMap<u8, i32> {
         let mut sum = BTreeMap::new();
         for &(number, sign) in list {
-            let Some(cell) = self.cell(dim, number) else {
-                continue;
-            };
-            for &(face, own) in &cell.faces {
+            for &(face, own) in self.cell(dim, number).iter().flat_map(|cell| &cell.faces) {
                 *sum.entry(face).or_insert(0) += i32::from(sign) * i32::from(own);
             }
         }

@@ -60,7 +60,7 @@ impl<'a> Fields<'a> {
 
     fn rising(&mut self, last: Option<u8>) -> Answer<u8> {
         let number = self.number()?;
-        demand(last.is_none_or(|last| number > last), Refusal::Form)?;
+        demand(last.map_or(true, |last| number > last), Refusal::Form)?;
         Ok(number)
     }
 

@@ -120,11 +120,10 @@ fn divide(pattern: &mut Pattern, dim: usize, cell: u8, mut chosen: Vec<Face>, mu
 
 fn merge(pattern: &mut Pattern, dim: usize, cell: u8) -> Answer<()> {
     find(pattern, dim, cell)?;
-    let [(lower, sign), (higher, other)] = pattern.users(dim, cell)[..] else {
-        return Err(Refusal::NotBetweenTwo);
+    let (lower, higher) = match pattern.users(dim, cell)[..] {
+        [(lower, sign), (higher, other)] if sign != other => (lower as u8, higher as u8),
+        _ => return Err(Refusal::NotBetweenTwo),
     };
-    demand(sign != other, Refusal::NotBetweenTwo)?;
-    let (lower, higher) = (lower as u8, higher as u8);
     let sum = pattern.boundary_of(dim + 1, &[(lower, 1), (higher, 1)]);
     let merged = Cell::from_sum(&sum).ok_or(Refusal::Sum)?;
     demand(!merged.faces.is_empty(), Refusal::Sum)?;

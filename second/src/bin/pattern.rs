@@ -2,7 +2,7 @@
 
 use std::fs::File;
 use std::io::{self, Read, Write};
-use std::os::fd::AsFd;
+use std::os::unix::io::AsFd;
 
 use second::{printed, INPUT_LIMIT};
 
