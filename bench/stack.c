@@ -25,7 +25,7 @@ static uint8_t refusal;
 #define LENT m1, sizeof m1, m2, sizeof m2, m3, sizeof m3
 
 static void *check(void *x) { refusal = mbyasoka_check(counts, LENT); return x; }
-static void *read_mesh(void *x) { refusal = mbyasoka_read_mesh(mesh, mesh_length, LENT, counts, &number); return x; }
+static void *read_mesh(void *x) { refusal = mbyasoka_read_mesh(counts, LENT, mesh, mesh_length, &number); return x; }
 static void *write_mesh(void *x) { refusal = mbyasoka_write_mesh(counts, LENT, out, sizeof out, &number); return x; }
 static void *euler_number(void *x) { refusal = mbyasoka_euler(counts, LENT, &euler); return x; }
 static void *run_script(void *x) { refusal = mbyasoka_run_script(counts, LENT, script, script_length, &ran); return x; }

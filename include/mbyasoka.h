@@ -54,15 +54,15 @@ uint8_t mbyasoka_check(const uint8_t counts[4],
 /* Reads a mesh from the front of the bytes. In: bytes. Out: the counts, every byte of the matrices, and how many bytes were used.
  * Refusals: 1; then cell by cell 3 and 4, then 5, then 7. A refusal answers counts 0 and used 0; after 1 the matrices are
  * unchanged, after another all three are zero. */
-uint8_t mbyasoka_read_mesh(const uint8_t *bytes, size_t length,
+uint8_t mbyasoka_read_mesh(uint8_t counts[4],
                            int8_t *m1, size_t m1_length, int8_t *m2, size_t m2_length, int8_t *m3, size_t m3_length,
-                           uint8_t counts[4], size_t *used);
+                           const uint8_t *bytes, size_t bytes_length, size_t *used);
 
 /* Writes the pattern as a mesh. Out: the first `*written` bytes of out, and no other. Refusals: 1, 2, 15; a refusal answers written 0
  * and touches no byte of out. */
 uint8_t mbyasoka_write_mesh(const uint8_t counts[4],
                             const int8_t *m1, size_t m1_length, const int8_t *m2, size_t m2_length, const int8_t *m3, size_t m3_length,
-                            uint8_t *out, size_t room, size_t *written);
+                            uint8_t *out, size_t out_length, size_t *written);
 
 /* The Euler number, corners - seams + panels - blocks. Refusals: 1, 2; a refusal answers number 0. */
 uint8_t mbyasoka_euler(const uint8_t counts[4],
@@ -73,14 +73,14 @@ uint8_t mbyasoka_euler(const uint8_t counts[4],
  * 5, 6, 7 to 12; a refusal changes no count and no byte. */
 uint8_t mbyasoka_apply_operator(uint8_t counts[4],
                                 int8_t *m1, size_t m1_length, int8_t *m2, size_t m2_length, int8_t *m3, size_t m3_length,
-                                const uint8_t *bytes, size_t length);
+                                const uint8_t *bytes, size_t bytes_length);
 
 /* A script. In and out: counts and matrices. Out: how many operators were accepted. Refusals: 1, 2, the first of 3 and 4 in byte order,
  * 14, 13: then nothing runs, *ran is 0 and no count and no byte changes. Otherwise operators run in order up to the first that is
  * refused, by 5, 6 or 7 to 12; those before it remain, and that one changes nothing. */
 uint8_t mbyasoka_run_script(uint8_t counts[4],
                             int8_t *m1, size_t m1_length, int8_t *m2, size_t m2_length, int8_t *m3, size_t m3_length,
-                            const uint8_t *bytes, size_t length, uint16_t *ran);
+                            const uint8_t *bytes, size_t bytes_length, uint16_t *ran);
 
 /* The boundary of a chain of cells of a dimension, 1 to 3. In: 96 coefficients within ±1,000,000, 0 at and past the count. Out: 96
  * coefficients, within ±96,000,000. Refusals: 1, 2, 4, 16; a refusal leaves out unchanged. */
@@ -93,7 +93,7 @@ uint8_t mbyasoka_boundary(const uint8_t counts[4],
  * the first of 3 and 4 in byte order, 14, 17, 5, 6, 7, 9, 10, and last 16; a refusal leaves out unchanged. */
 uint8_t mbyasoka_carry(const uint8_t counts[4],
                        const int8_t *m1, size_t m1_length, const int8_t *m2, size_t m2_length, const int8_t *m3, size_t m3_length,
-                       const uint8_t *bytes, size_t length,
+                       const uint8_t *bytes, size_t bytes_length,
                        uint8_t dimension, const int32_t *chain, size_t chain_length, int32_t *out, size_t out_length);
 
 #ifdef __cplusplus

@@ -11,7 +11,7 @@ int main(void)
     size_t length = fread(input, 1, sizeof input, stdin), used, written;
     uint16_t ran;
     int16_t euler;
-    uint8_t refusal = mbyasoka_read_mesh(input, length, m1, sizeof m1, m2, sizeof m2, m3, sizeof m3, counts, &used);
+    uint8_t refusal = mbyasoka_read_mesh(counts, m1, sizeof m1, m2, sizeof m2, m3, sizeof m3, input, length, &used);
     if (refusal != MBYASOKA_ACCEPTED) {
         fprintf(stderr, "mesh refusal %d\n", refusal);
         return 1;

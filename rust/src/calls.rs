@@ -1,45 +1,13 @@
 //! The public calls on lent slices of any length, each as include/mbyasoka.h says. Answers begin with the refusal, 0 for accepted.
 
+use crate::raw;
+
 /// The counts of corners, seams, panels and blocks.
 pub type Counts = [u8; 4];
 
 /// The three matrices of a lent pattern.
 pub type Matrices<'a> = [&'a [i8]; 3];
 pub type MatricesMut<'a> = [&'a mut [i8]; 3];
-
-#[rustfmt::skip]
-mod raw {
-    extern "C" {
-        pub fn mbyasoka_check(counts: *const [u8; 4], m1: *const i8, l1: usize, m2: *const i8, l2: usize, m3: *const i8, l3: usize) -> u8;
-        pub fn mbyasoka_read_mesh(
-            bytes: *const u8, length: usize, m1: *mut i8, l1: usize, m2: *mut i8, l2: usize, m3: *mut i8, l3: usize,
-            counts: *mut [u8; 4], used: *mut usize,
-        ) -> u8;
-        pub fn mbyasoka_write_mesh(
-            counts: *const [u8; 4], m1: *const i8, l1: usize, m2: *const i8, l2: usize, m3: *const i8, l3: usize,
-            out: *mut u8, room: usize, written: *mut usize,
-        ) -> u8;
-        pub fn mbyasoka_euler(
-            counts: *const [u8; 4], m1: *const i8, l1: usize, m2: *const i8, l2: usize, m3: *const i8, l3: usize, number: *mut i16,
-        ) -> u8;
-        pub fn mbyasoka_apply_operator(
-            counts: *mut [u8; 4], m1: *mut i8, l1: usize, m2: *mut i8, l2: usize, m3: *mut i8, l3: usize,
-            bytes: *const u8, length: usize,
-        ) -> u8;
-        pub fn mbyasoka_run_script(
-            counts: *mut [u8; 4], m1: *mut i8, l1: usize, m2: *mut i8, l2: usize, m3: *mut i8, l3: usize,
-            bytes: *const u8, length: usize, ran: *mut u16,
-        ) -> u8;
-        pub fn mbyasoka_boundary(
-            counts: *const [u8; 4], m1: *const i8, l1: usize, m2: *const i8, l2: usize, m3: *const i8, l3: usize,
-            dimension: u8, chain: *const i32, chain_length: usize, out: *mut i32, room: usize,
-        ) -> u8;
-        pub fn mbyasoka_carry(
-            counts: *const [u8; 4], m1: *const i8, l1: usize, m2: *const i8, l2: usize, m3: *const i8, l3: usize,
-            bytes: *const u8, length: usize, dimension: u8, chain: *const i32, chain_length: usize, out: *mut i32, room: usize,
-        ) -> u8;
-    }
-}
 
 /// A call: what stands before the matrices, the matrices, each by its pointer and its length, and what stands after them.
 ///
@@ -58,7 +26,7 @@ pub fn check(counts: Counts, [m1, m2, m3]: Matrices) -> u8 {
 /// Refusal, counts, bytes used.
 pub fn read_mesh(bytes: &[u8], [m1, m2, m3]: MatricesMut) -> (u8, Counts, usize) {
     let (mut counts, mut used) = ([0; 4], 0);
-    let refusal = call!(mbyasoka_read_mesh, [bytes.as_ptr(), bytes.len()], as_mut_ptr [m1, m2, m3], [&mut counts, &mut used]);
+    let refusal = call!(mbyasoka_read_mesh, [&mut counts], as_mut_ptr [m1, m2, m3], [bytes.as_ptr(), bytes.len(), &mut used]);
     (refusal, counts, used)
 }
 

@@ -1,5 +1,6 @@
 //! The engine for Rust: a pattern with the calls as methods, safe and with no heap. `calls` has the same on lent slices.
 pub mod calls;
+pub mod raw;
 
 /// Rows and columns of a matrix, and coefficients of a chain.
 pub const SIDE: usize = 96;

@@ -1,9 +1,10 @@
 // One operator on a good pattern.
 ghost use mathlib.Core.Path.{_≡_};
-ghost use Rattle.rules.specs.Complex.{pattern, complex};
+ghost use Rattle.rules.specs.Complex.{complex};
 ghost use Rattle.rules.specs.Operators.{step};
 ghost use Rattle.rules.specs.Form.{facesOf};
-ghost use Rattle.rules.specs.Calls.{lent, applied};
+ghost use Rattle.rules.specs.Calls.{applied};
+ghost use Rattle.rules.specs.Lending.{asLent, atEntry, left};
 ghost use Rattle.operators.specs.Held.{Held};
 ghost use Rattle.engine.specs.Source.{ReadFrom};
 use operators::flip::flip;
@@ -24,9 +25,9 @@ pub fn apply(
     m2: &mut [i8],
     m3: &mut [i8],
 ) -> Applied
-    requires { ⌜ Held (pattern c (now m1) (now m2) (now m3)) ⌝ }
+    requires { ⌜ Held (asLent c m1 m2 m3) ⌝ }
     requires { ⌜ ReadFrom (now s) o ⌝ }
-    ensures { λ r. ⌜ lent r (pattern (r .counts) (now (m1 .exit)) (now (m2 .exit)) (now (m3 .exit))) ≡ applied (pattern c (now (m1 .entry)) (now (m2 .entry)) (now (m3 .entry))) (step o (facesOf (now (s .entry)) o) (complex (pattern c (now (m1 .entry)) (now (m2 .entry)) (now (m3 .entry))))) ⌝ }
+    ensures { λ r. ⌜ left r m1 m2 m3 ≡ applied (atEntry c m1 m2 m3) (step o (facesOf (now (s .entry)) o) (complex (atEntry c m1 m2 m3))) ⌝ }
 {
     match o {
         Operator::Make { dim, list } => make(c, dim, s, list, m1, m2, m3),

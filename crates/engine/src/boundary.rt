@@ -4,8 +4,8 @@ ghost use lib.IntN.{pos, _+ℤ_, _*ℤ_};
 ghost use lib.ListN.{length};
 ghost use Rattle.maths.specs.Tables.{table};
 ghost use Rattle.grid.specs.Grid.{run, plus};
-ghost use Rattle.rules.specs.Complex.{pattern};
 ghost use Rattle.rules.specs.Calls.{boundaryCall};
+ghost use Rattle.rules.specs.Lending.{atEntry};
 ghost use Rattle.engine.specs.Boundaries.{product, matrixOf, Term, Terms, Factors};
 use crate::chains::is_chain;
 use good::refusal_of_pattern;
@@ -79,7 +79,7 @@ pub fn boundary(
     chain: &[i32],
     out: &mut [i32],
 ) -> u8
-    ensures { λ r. ⌜ record { refusal = r; out = now (out .exit) } ≡ boundaryCall (pattern c (now (m1 .entry)) (now (m2 .entry)) (now (m3 .entry))) d (now (chain .entry)) (now (out .entry)) ⌝ }
+    ensures { λ r. ⌜ record { refusal = r; out = now (out .exit) } ≡ boundaryCall (atEntry c m1 m2 m3) d (now (chain .entry)) (now (out .entry)) ⌝ }
 {
     if !((chain.len() == 96) & (out.len() == 96)) {
         return WRONG_LENGTH;

@@ -3,11 +3,12 @@ ghost use mathlib.Core.Path.{_≡_};
 ghost use Prim.Native.Nat.{_≤_};
 ghost use lib.IntN.{natAbs, negℤ};
 ghost use Rattle.maths.specs.Tables.{table};
-ghost use Rattle.rules.specs.Complex.{pattern, complex};
+ghost use Rattle.rules.specs.Complex.{complex};
 ghost use Rattle.rules.specs.Operators.{step};
 ghost use Rattle.rules.specs.Form.{facesOf};
 ghost use Rattle.rules.specs.Chains.{carryLimit, carryStep};
 ghost use Rattle.rules.specs.Calls.{coefficients, carryCall};
+ghost use Rattle.rules.specs.Lending.{asLent, atEntry};
 ghost use Rattle.operators.specs.Held.{Held};
 ghost use Rattle.engine.specs.Source.{ReadFrom};
 ghost use Rattle.engine.specs.Carrying.{numberOf, rewritten, Writable, Carriable, carriedBy};
@@ -29,9 +30,9 @@ use rules::refusals::WRONG_LENGTH;
 
 // The operator's own refusal, or 0: it is applied to a copy.
 fn refusal_of_trial(c: Counts, o: Operator, s: &[u8], m1: &[i8], m2: &[i8], m3: &[i8]) -> u8
-    requires { ⌜ Held (pattern c (now m1) (now m2) (now m3)) ⌝ }
+    requires { ⌜ Held (asLent c m1 m2 m3) ⌝ }
     requires { ⌜ ReadFrom (now s) o ⌝ }
-    ensures { λ r. ⌜ r ≡ numberOf (step o (facesOf (now (s .entry)) o) (complex (pattern c (now (m1 .entry)) (now (m2 .entry)) (now (m3 .entry))))) ⌝ }
+    ensures { λ r. ⌜ r ≡ numberOf (step o (facesOf (now (s .entry)) o) (complex (atEntry c m1 m2 m3))) ⌝ }
 {
     let mut t1 = [0i8; 9216];
     let mut t2 = [0i8; 9216];
@@ -45,9 +46,9 @@ fn refusal_of_trial(c: Counts, o: Operator, s: &[u8], m1: &[i8], m2: &[i8], m3: 
 
 // The refusal of carrying through an operator, or 0: 17 before its own.
 fn refusal_of_carrying(c: Counts, o: Operator, s: &[u8], m1: &[i8], m2: &[i8], m3: &[i8]) -> u8
-    requires { ⌜ Held (pattern c (now m1) (now m2) (now m3)) ⌝ }
+    requires { ⌜ Held (asLent c m1 m2 m3) ⌝ }
     requires { ⌜ ReadFrom (now s) o ⌝ }
-    ensures { λ r. ⌜ r ≡ numberOf (carryStep o (facesOf (now (s .entry)) o) (complex (pattern c (now (m1 .entry)) (now (m2 .entry)) (now (m3 .entry))))) ⌝ }
+    ensures { λ r. ⌜ r ≡ numberOf (carryStep o (facesOf (now (s .entry)) o) (complex (atEntry c m1 m2 m3))) ⌝ }
 {
     match o {
         Operator::Make { dim: _, list: _ } => refusal_of_trial(c, o, s, m1, m2, m3),
@@ -107,8 +108,8 @@ fn carry_through(
     chain: &[i32],
     out: &mut [i32],
 ) -> u8
-    requires { ⌜ Carriable (pattern c (now m1) (now m2) (now m3)) (now s) o d (now chain) (now out) ⌝ }
-    ensures { λ r. ⌜ record { refusal = r; out = now (out .exit) } ≡ carriedBy (pattern c (now (m1 .entry)) (now (m2 .entry)) (now (m3 .entry))) (now (s .entry)) o d (now (chain .entry)) (now (out .entry)) ⌝ }
+    requires { ⌜ Carriable (asLent c m1 m2 m3) (now s) o d (now chain) (now out) ⌝ }
+    ensures { λ r. ⌜ record { refusal = r; out = now (out .exit) } ≡ carriedBy (atEntry c m1 m2 m3) (now (s .entry)) o d (now (chain .entry)) (now (out .entry)) ⌝ }
 {
     let refusal = refusal_of_carrying(c, o, s, m1, m2, m3);
     if refusal != ACCEPTED {
@@ -134,7 +135,7 @@ pub fn carry(
     chain: &[i32],
     out: &mut [i32],
 ) -> u8
-    ensures { λ r. ⌜ record { refusal = r; out = now (out .exit) } ≡ carryCall (pattern c (now (m1 .entry)) (now (m2 .entry)) (now (m3 .entry))) (now (s .entry)) d (now (chain .entry)) (now (out .entry)) ⌝ }
+    ensures { λ r. ⌜ record { refusal = r; out = now (out .exit) } ≡ carryCall (atEntry c m1 m2 m3) (now (s .entry)) d (now (chain .entry)) (now (out .entry)) ⌝ }
 {
     if !((chain.len() == 96) & (out.len() == 96)) {
         return WRONG_LENGTH;

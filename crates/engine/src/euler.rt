@@ -1,9 +1,10 @@
 // The Euler number of a lent pattern.
 ghost use mathlib.Core.Path.{_≡_};
 ghost use Rattle.rules.specs.Counts.{countOf};
-ghost use Rattle.rules.specs.Complex.{bare, pattern};
+ghost use Rattle.rules.specs.Complex.{bare};
 ghost use Rattle.rules.specs.Complex as complexes;
 ghost use Rattle.rules.specs.Calls.{eulerCall};
+ghost use Rattle.rules.specs.Lending.{atEntry};
 ghost use Rattle.engine.specs.Numbers.{Difference};
 use good::refusal_of_pattern;
 use rules::answers::EulerNumber;
@@ -29,7 +30,7 @@ fn alternating(c: Counts) -> i16
 
 // The Euler number of a lent pattern, or 0 where it is refused by 1 or 2, in this order.
 pub fn euler(c: Counts, m1: &[i8], m2: &[i8], m3: &[i8]) -> EulerNumber
-    ensures { λ r. ⌜ r ≡ eulerCall (pattern c (now (m1 .entry)) (now (m2 .entry)) (now (m3 .entry))) ⌝ }
+    ensures { λ r. ⌜ r ≡ eulerCall (atEntry c m1 m2 m3) ⌝ }
 {
     let refusal = refusal_of_pattern(c, m1, m2, m3);
     if refusal != ACCEPTED {

@@ -1,8 +1,8 @@
 // The public calls: reading and writing a mesh, which stand in `mesh`; here one operator and a script; a module each for the Euler number, the
 // boundary of a chain and carrying one.
 ghost use mathlib.Core.Path.{_≡_};
-ghost use Rattle.rules.specs.Complex.{pattern};
-ghost use Rattle.rules.specs.Calls.{lent, applyCall, runCall};
+ghost use Rattle.rules.specs.Calls.{applyCall, runCall};
+ghost use Rattle.rules.specs.Lending.{atEntry, left};
 use crate::apply::apply;
 use crate::script::run_operators;
 use crate::script::same_base;
@@ -30,7 +30,7 @@ mod script;
 
 // One operator, of which s are the bytes, on a lent pattern.
 pub fn apply_operator(c: Counts, m1: &mut [i8], m2: &mut [i8], m3: &mut [i8], s: &[u8]) -> Applied
-    ensures { λ r. ⌜ lent r (pattern (r .counts) (now (m1 .exit)) (now (m2 .exit)) (now (m3 .exit))) ≡ applyCall (pattern c (now (m1 .entry)) (now (m2 .entry)) (now (m3 .entry))) (now (s .entry)) ⌝ }
+    ensures { λ r. ⌜ left r m1 m2 m3 ≡ applyCall (atEntry c m1 m2 m3) (now (s .entry)) ⌝ }
 {
     let refusal = refusal_of_pattern(c, m1, m2, m3);
     if refusal != ACCEPTED {
@@ -58,7 +58,7 @@ fn idle(c: Counts, refusal: u8) -> ScriptRun
 
 // The script s on a lent pattern, up to the first refusal.
 pub fn run_script(c: Counts, m1: &mut [i8], m2: &mut [i8], m3: &mut [i8], s: &[u8]) -> ScriptRun
-    ensures { λ r. ⌜ lent r (pattern (r .counts) (now (m1 .exit)) (now (m2 .exit)) (now (m3 .exit))) ≡ runCall (pattern c (now (m1 .entry)) (now (m2 .entry)) (now (m3 .entry))) (now (s .entry)) ⌝ }
+    ensures { λ r. ⌜ left r m1 m2 m3 ≡ runCall (atEntry c m1 m2 m3) (now (s .entry)) ⌝ }
 {
     if 24576 < s.len() {
         return idle(c, WRONG_LENGTH);

@@ -5,7 +5,7 @@ ghost use lib.Dec.{eqb};
 ghost use lib.ListN.{length, getD};
 ghost use Rattle.maths.specs.Tests.{all};
 ghost use Rattle.rules.specs.Counts.{countOf};
-ghost use Rattle.rules.specs.Complex.{pattern};
+ghost use Rattle.rules.specs.Lending.{asLent, atEntry, atExit};
 ghost use Rattle.operators.specs.Held.{Held};
 ghost use Rattle.engine.specs.Running.{Runnable, Turned, RunTo};
 use crate::apply::apply;
@@ -33,8 +33,8 @@ pub(crate) fn same_base(c: Counts, s: &[u8]) -> bool
 
 // The operator at `at`.
 fn run_one(c: Counts, s: &[u8], at: usize, m1: &mut [i8], m2: &mut [i8], m3: &mut [i8]) -> OneRun
-    requires { ⌜ Held (pattern c (now m1) (now m2) (now m3)) ⌝ }
-    ensures { λ r. ⌜ Turned (now (s .entry)) at (pattern c (now (m1 .entry)) (now (m2 .entry)) (now (m3 .entry))) (r .next) (r .refusal) (pattern (r .counts) (now (m1 .exit)) (now (m2 .exit)) (now (m3 .exit))) ⌝ }
+    requires { ⌜ Held (asLent c m1 m2 m3) ⌝ }
+    ensures { λ r. ⌜ Turned (now (s .entry)) at (atEntry c m1 m2 m3) (r .next) (r .refusal) (atExit (r .counts) m1 m2 m3) ⌝ }
 {
     match read_operator(s, at) {
         OperatorForm::Bad(f) => OneRun {
@@ -63,8 +63,8 @@ pub(crate) fn run_operators(
     m2: &mut [i8],
     m3: &mut [i8],
 ) -> ScriptRun
-    requires { ⌜ Runnable n (pattern c (now m1) (now m2) (now m3)) ⌝ }
-    ensures { λ r. ⌜ RunTo (now (s .entry)) n (pattern c (now (m1 .entry)) (now (m2 .entry)) (now (m3 .entry))) (r .ran) (r .refusal) (pattern (r .counts) (now (m1 .exit)) (now (m2 .exit)) (now (m3 .exit))) ⌝ }
+    requires { ⌜ Runnable n (asLent c m1 m2 m3) ⌝ }
+    ensures { λ r. ⌜ RunTo (now (s .entry)) n (atEntry c m1 m2 m3) (r .ran) (r .refusal) (atExit (r .counts) m1 m2 m3) ⌝ }
 {
     let mut counts = c;
     let mut place: usize = 7;

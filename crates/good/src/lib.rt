@@ -1,6 +1,7 @@
 // Whether a lent pattern is good.
 ghost use mathlib.Core.Path.{_≡_};
 ghost use Rattle.good.specs.Tested.{tested};
+ghost use Rattle.rules.specs.Lending.{atEntry};
 use crate::pattern::is_good;
 use rules::counts::Counts;
 use rules::refusals::ACCEPTED;
@@ -13,7 +14,7 @@ mod products;
 
 // The refusal of a lent pattern: 1 where a matrix is not 9,216 long, else 2 where the pattern is not good, else 0.
 pub fn refusal_of_pattern(c: Counts, m1: &[i8], m2: &[i8], m3: &[i8]) -> u8
-    ensures { λ r. ⌜ r ≡ tested (record { counts = c; m1 = now (m1 .entry); m2 = now (m2 .entry); m3 = now (m3 .entry) }) ⌝ }
+    ensures { λ r. ⌜ r ≡ tested (atEntry c m1 m2 m3) ⌝ }
 {
     if !((m1.len() == 9216) & (m2.len() == 9216) & (m3.len() == 9216)) {
         return WRONG_LENGTH;

@@ -6,6 +6,7 @@ ghost use Rattle.rules.specs.Counts.{countOf};
 ghost use Rattle.rules.specs.Complex.{complex};
 ghost use Rattle.rules.specs.Good.{isGood};
 ghost use Rattle.rules.specs.Calls.{sized};
+ghost use Rattle.rules.specs.Lending.{asLent, atEntry};
 ghost use Rattle.good.specs.Parts.{cells, fewCells, formed, sound, Stored, AllPlaced};
 use crate::columns::faces;
 use crate::columns::in_place;
@@ -50,8 +51,8 @@ fn is_sound(n0: usize, n1: usize, n2: usize, n3: usize, m1: &[i8], m2: &[i8], m3
 
 // Whether four counts and three matrices make a good pattern.
 pub fn is_good(c: Counts, m1: &[i8], m2: &[i8], m3: &[i8]) -> bool
-    requires { ⌜ sized (record { counts = c; m1 = now m1; m2 = now m2; m3 = now m3 }) ≡ true ⌝ }
-    ensures { λ r. ⌜ r ≡ isGood (complex (record { counts = c; m1 = now (m1 .entry); m2 = now (m2 .entry); m3 = now (m3 .entry) })) ⌝ }
+    requires { ⌜ sized (asLent c m1 m2 m3) ≡ true ⌝ }
+    ensures { λ r. ⌜ r ≡ isGood (complex (atEntry c m1 m2 m3)) ⌝ }
 {
     few(c)
         && is_sound(

@@ -1,7 +1,8 @@
 // The engine for C and Rust: numbers, arrays of four counts, and slices, each a pointer and then a length.
 ghost use mathlib.Core.Path.{_≡_};
-ghost use Rattle.rules.specs.Complex.{pattern, countsOf, empty};
-ghost use Rattle.rules.specs.Calls.{lent, readCall, writeCall, eulerCall, applyCall, runCall, boundaryCall, carryCall};
+ghost use Rattle.rules.specs.Complex.{countsOf, empty};
+ghost use Rattle.rules.specs.Calls.{readCall, writeCall, eulerCall, applyCall, runCall, boundaryCall, carryCall};
+ghost use Rattle.rules.specs.Lending.{atEntry, left};
 ghost use Rattle.good.specs.Tested.{tested};
 use engine::apply_operator;
 use engine::boundary::boundary;
@@ -16,7 +17,7 @@ use rules::counts::Counts;
 // Whether the pattern is good: 0, or the refusal 1 or 2.
 #[no_mangle]
 pub extern "C" fn mbyasoka_check(counts: &[u8; 4], m1: &[i8], m2: &[i8], m3: &[i8]) -> u8
-    ensures { λ r. ⌜ r ≡ tested (pattern (record { n = now (counts .entry) }) (now (m1 .entry)) (now (m2 .entry)) (now (m3 .entry))) ⌝ }
+    ensures { λ r. ⌜ r ≡ tested (atEntry (record { n = now (counts .entry) }) m1 m2 m3) ⌝ }
 {
     let c = Counts { n: *counts };
     refusal_of_pattern(c, m1, m2, m3)
@@ -25,14 +26,14 @@ pub extern "C" fn mbyasoka_check(counts: &[u8; 4], m1: &[i8], m2: &[i8], m3: &[i
 // Reads a mesh from the front of the bytes: the refusal, the counts, and how many bytes it took.
 #[no_mangle]
 pub extern "C" fn mbyasoka_read_mesh(
-    s: &[u8],
+    counts: &mut [u8; 4],
     m1: &mut [i8],
     m2: &mut [i8],
     m3: &mut [i8],
-    counts: &mut [u8; 4],
+    s: &[u8],
     used: &mut usize,
 ) -> u8
-    ensures { λ r. ⌜ lent (record { counts = record { n = now (counts .exit) }; used = now (used .exit); refusal = r }) (pattern (record { n = now (counts .exit) }) (now (m1 .exit)) (now (m2 .exit)) (now (m3 .exit))) ≡ readCall (now (s .entry)) (pattern (countsOf empty) (now (m1 .entry)) (now (m2 .entry)) (now (m3 .entry))) ⌝ }
+    ensures { λ r. ⌜ left (record { counts = record { n = now (counts .exit) }; used = now (used .exit); refusal = r }) m1 m2 m3 ≡ readCall (now (s .entry)) (atEntry (countsOf empty) m1 m2 m3) ⌝ }
 {
     let answer = read_mesh(s, m1, m2, m3);
     let c = answer.counts;
@@ -52,7 +53,7 @@ pub extern "C" fn mbyasoka_write_mesh(
     out: &mut [u8],
     written: &mut usize,
 ) -> u8
-    ensures { λ r. ⌜ record { answer = record { written = now (written .exit); refusal = r }; out = now (out .exit) } ≡ writeCall (pattern (record { n = now (counts .entry) }) (now (m1 .entry)) (now (m2 .entry)) (now (m3 .entry))) (now (out .entry)) ⌝ }
+    ensures { λ r. ⌜ record { answer = record { written = now (written .exit); refusal = r }; out = now (out .exit) } ≡ writeCall (atEntry (record { n = now (counts .entry) }) m1 m2 m3) (now (out .entry)) ⌝ }
 {
     let c = Counts { n: *counts };
     let answer = write_mesh(c, m1, m2, m3, out);
@@ -69,7 +70,7 @@ pub extern "C" fn mbyasoka_euler(
     m3: &[i8],
     number: &mut i16,
 ) -> u8
-    ensures { λ r. ⌜ record { number = now (number .exit); refusal = r } ≡ eulerCall (pattern (record { n = now (counts .entry) }) (now (m1 .entry)) (now (m2 .entry)) (now (m3 .entry))) ⌝ }
+    ensures { λ r. ⌜ record { number = now (number .exit); refusal = r } ≡ eulerCall (atEntry (record { n = now (counts .entry) }) m1 m2 m3) ⌝ }
 {
     let c = Counts { n: *counts };
     let answer = euler(c, m1, m2, m3);
@@ -87,7 +88,7 @@ pub extern "C" fn mbyasoka_apply_operator(
     m3: &mut [i8],
     s: &[u8],
 ) -> u8
-    ensures { λ r. ⌜ lent (record { counts = record { n = now (counts .exit) }; refusal = r }) (pattern (record { n = now (counts .exit) }) (now (m1 .exit)) (now (m2 .exit)) (now (m3 .exit))) ≡ applyCall (pattern (record { n = now (counts .entry) }) (now (m1 .entry)) (now (m2 .entry)) (now (m3 .entry))) (now (s .entry)) ⌝ }
+    ensures { λ r. ⌜ left (record { counts = record { n = now (counts .exit) }; refusal = r }) m1 m2 m3 ≡ applyCall (atEntry (record { n = now (counts .entry) }) m1 m2 m3) (now (s .entry)) ⌝ }
 {
     let c = Counts { n: *counts };
     let answer = apply_operator(c, m1, m2, m3, s);
@@ -107,7 +108,7 @@ pub extern "C" fn mbyasoka_run_script(
     s: &[u8],
     ran: &mut u16,
 ) -> u8
-    ensures { λ r. ⌜ lent (record { counts = record { n = now (counts .exit) }; ran = now (ran .exit); refusal = r }) (pattern (record { n = now (counts .exit) }) (now (m1 .exit)) (now (m2 .exit)) (now (m3 .exit))) ≡ runCall (pattern (record { n = now (counts .entry) }) (now (m1 .entry)) (now (m2 .entry)) (now (m3 .entry))) (now (s .entry)) ⌝ }
+    ensures { λ r. ⌜ left (record { counts = record { n = now (counts .exit) }; ran = now (ran .exit); refusal = r }) m1 m2 m3 ≡ runCall (atEntry (record { n = now (counts .entry) }) m1 m2 m3) (now (s .entry)) ⌝ }
 {
     let c = Counts { n: *counts };
     let answer = run_script(c, m1, m2, m3, s);
@@ -129,7 +130,7 @@ pub extern "C" fn mbyasoka_boundary(
     chain: &[i32],
     out: &mut [i32],
 ) -> u8
-    ensures { λ r. ⌜ record { refusal = r; out = now (out .exit) } ≡ boundaryCall (pattern (record { n = now (counts .entry) }) (now (m1 .entry)) (now (m2 .entry)) (now (m3 .entry))) d (now (chain .entry)) (now (out .entry)) ⌝ }
+    ensures { λ r. ⌜ record { refusal = r; out = now (out .exit) } ≡ boundaryCall (atEntry (record { n = now (counts .entry) }) m1 m2 m3) d (now (chain .entry)) (now (out .entry)) ⌝ }
 {
     let c = Counts { n: *counts };
     boundary(c, m1, m2, m3, d, chain, out)
@@ -147,7 +148,7 @@ pub extern "C" fn mbyasoka_carry(
     chain: &[i32],
     out: &mut [i32],
 ) -> u8
-    ensures { λ r. ⌜ record { refusal = r; out = now (out .exit) } ≡ carryCall (pattern (record { n = now (counts .entry) }) (now (m1 .entry)) (now (m2 .entry)) (now (m3 .entry))) (now (s .entry)) d (now (chain .entry)) (now (out .entry)) ⌝ }
+    ensures { λ r. ⌜ record { refusal = r; out = now (out .exit) } ≡ carryCall (atEntry (record { n = now (counts .entry) }) m1 m2 m3) (now (s .entry)) d (now (chain .entry)) (now (out .entry)) ⌝ }
 {
     let c = Counts { n: *counts };
     carry(c, m1, m2, m3, s, d, chain, out)

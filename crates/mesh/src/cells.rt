@@ -2,7 +2,7 @@
 ghost use Rattle.maths.specs.Repeat.{repeat};
 ghost use Rattle.rules.specs.Complex.{complex};
 ghost use Rattle.rules.specs.Mesh.{readCell, readSection};
-ghost use Rattle.rules.specs.Complex.{pattern};
+ghost use Rattle.rules.specs.Lending.{asLent, atEntry, atExit};
 ghost use Rattle.mesh.specs.Reading.{Readable, Went};
 use form::fields::byte_form;
 use form::fields::refusal_of;
@@ -24,8 +24,8 @@ fn read_cell(
     m2: &mut [i8],
     m3: &mut [i8],
 ) -> MeshRead
-    requires { ⌜ Readable k (pattern c (now m1) (now m2) (now m3)) ⌝ }
-    ensures { λ r. ⌜ Went (readCell (now (s .entry)) k (complex (pattern c (now (m1 .entry)) (now (m2 .entry)) (now (m3 .entry))), at)) r (pattern (r .counts) (now (m1 .exit)) (now (m2 .exit)) (now (m3 .exit))) ⌝ }
+    requires { ⌜ Readable k (asLent c m1 m2 m3) ⌝ }
+    ensures { λ r. ⌜ Went (readCell (now (s .entry)) k (complex (atEntry c m1 m2 m3), at)) r (atExit (r .counts) m1 m2 m3) ⌝ }
 {
     match make_form(s, k, at) {
         OperatorForm::Bad(f) => MeshRead {
@@ -56,8 +56,8 @@ fn read_cells(
     m2: &mut [i8],
     m3: &mut [i8],
 ) -> MeshRead
-    requires { ⌜ Readable k (pattern c (now m1) (now m2) (now m3)) ⌝ }
-    ensures { λ r. ⌜ Went (λ go. repeat (readCell (now (s .entry)) k) go n (complex (pattern c (now (m1 .entry)) (now (m2 .entry)) (now (m3 .entry))), at)) r (pattern (r .counts) (now (m1 .exit)) (now (m2 .exit)) (now (m3 .exit))) ⌝ }
+    requires { ⌜ Readable k (asLent c m1 m2 m3) ⌝ }
+    ensures { λ r. ⌜ Went (λ go. repeat (readCell (now (s .entry)) k) go n (complex (atEntry c m1 m2 m3), at)) r (atExit (r .counts) m1 m2 m3) ⌝ }
 {
     let mut counts = c;
     let mut place = at;
@@ -89,8 +89,8 @@ pub(crate) fn read_section(
     m2: &mut [i8],
     m3: &mut [i8],
 ) -> MeshRead
-    requires { ⌜ Readable k (pattern c (now m1) (now m2) (now m3)) ⌝ }
-    ensures { λ r. ⌜ Went (readSection (now (s .entry)) k (complex (pattern c (now (m1 .entry)) (now (m2 .entry)) (now (m3 .entry))), at)) r (pattern (r .counts) (now (m1 .exit)) (now (m2 .exit)) (now (m3 .exit))) ⌝ }
+    requires { ⌜ Readable k (asLent c m1 m2 m3) ⌝ }
+    ensures { λ r. ⌜ Went (readSection (now (s .entry)) k (complex (atEntry c m1 m2 m3), at)) r (atExit (r .counts) m1 m2 m3) ⌝ }
 {
     match byte_form(s, at, 0, 96) {
         Field::Bad(f) => MeshRead {

@@ -2,8 +2,8 @@
 ghost use mathlib.Core.Path.{_≡_};
 ghost use Prim.Native.Nat.{_+_};
 ghost use Rattle.rules.specs.Complex.{countsOf, empty};
-ghost use Rattle.rules.specs.Calls.{lent, sized, noMesh, readCall};
-ghost use Rattle.rules.specs.Complex.{pattern};
+ghost use Rattle.rules.specs.Calls.{sized, noMesh, readCall};
+ghost use Rattle.rules.specs.Lending.{asLent, atEntry, atExit, left};
 ghost use Rattle.mesh.specs.Reading.{zeros, Long, Zeros, Sofar, Next};
 use crate::cells::read_section;
 use form::fields::byte_form;
@@ -55,8 +55,8 @@ fn read_next(
     m2: &mut [i8],
     m3: &mut [i8],
 ) -> MeshRead
-    requires { ⌜ Next (now s) k before (pattern (before .counts) (now m1) (now m2) (now m3)) ⌝ }
-    ensures { λ r. ⌜ Sofar (now (s .entry)) (k + 1) r (pattern (r .counts) (now (m1 .exit)) (now (m2 .exit)) (now (m3 .exit))) ⌝ }
+    requires { ⌜ Next (now s) k before (asLent (before .counts) m1 m2 m3) ⌝ }
+    ensures { λ r. ⌜ Sofar (now (s .entry)) (k + 1) r (atExit (r .counts) m1 m2 m3) ⌝ }
 {
     if before.refusal != ACCEPTED {
         return before;
@@ -68,7 +68,7 @@ fn read_next(
 // All of the mesh, into matrices of zeros.
 fn read_sections(s: &[u8], m1: &mut [i8], m2: &mut [i8], m3: &mut [i8]) -> MeshRead
     requires { ⌜ Zeros (now m1) (now m2) (now m3) ⌝ }
-    ensures { λ r. ⌜ Sofar (now (s .entry)) 4 r (pattern (r .counts) (now (m1 .exit)) (now (m2 .exit)) (now (m3 .exit))) ⌝ }
+    ensures { λ r. ⌜ Sofar (now (s .entry)) 4 r (atExit (r .counts) m1 m2 m3) ⌝ }
 {
     let corners = read_corners(s);
     let seams = read_next(corners, 1, s, m1, m2, m3);
@@ -78,7 +78,7 @@ fn read_sections(s: &[u8], m1: &mut [i8], m2: &mut [i8], m3: &mut [i8]) -> MeshR
 
 // Whether each matrix has 9,216 entries.
 fn are_sized(m1: &[i8], m2: &[i8], m3: &[i8]) -> bool
-    ensures { λ r. ⌜ r ≡ sized (pattern (countsOf empty) (now (m1 .entry)) (now (m2 .entry)) (now (m3 .entry))) ⌝ }
+    ensures { λ r. ⌜ r ≡ sized (atEntry (countsOf empty) m1 m2 m3) ⌝ }
 {
     (m1.len() == 9216) & (m2.len() == 9216) & (m3.len() == 9216)
 }
@@ -95,7 +95,7 @@ fn clear_all(m1: &mut [i8], m2: &mut [i8], m3: &mut [i8])
 
 // Reads a mesh into three matrices. Every refusal but that of their lengths leaves them zero.
 pub fn read_mesh(s: &[u8], m1: &mut [i8], m2: &mut [i8], m3: &mut [i8]) -> MeshRead
-    ensures { λ r. ⌜ lent r (pattern (r .counts) (now (m1 .exit)) (now (m2 .exit)) (now (m3 .exit))) ≡ readCall (now (s .entry)) (pattern (countsOf empty) (now (m1 .entry)) (now (m2 .entry)) (now (m3 .entry))) ⌝ }
+    ensures { λ r. ⌜ left r m1 m2 m3 ≡ readCall (now (s .entry)) (atEntry (countsOf empty) m1 m2 m3) ⌝ }
 {
     if !are_sized(m1, m2, m3) {
         return refused(WRONG_LENGTH);

@@ -7,10 +7,11 @@ ghost use lib.ListN.{length};
 ghost use Rattle.maths.specs.Tests.{eqZ};
 ghost use Rattle.maths.specs.Tables.{column};
 ghost use Rattle.maths.specs.Buffers.{Put, Fits};
-ghost use Rattle.rules.specs.Complex.{pattern, complex};
+ghost use Rattle.rules.specs.Complex.{complex};
 ghost use Rattle.rules.specs.Mesh.{pair, eachFace, writeCell, writeMesh};
 ghost use Rattle.rules.specs.Calls.{writeCall};
 ghost use Rattle.rules.proofs.FaceTexts.{oneFace};
+ghost use Rattle.rules.specs.Lending.{asLent, atEntry};
 ghost use Rattle.grid.specs.Grid.{Line};
 ghost use Rattle.mesh.specs.Writing.{seamText, listText, sectionText};
 ghost use Rattle.mesh.specs.Writing.{ColumnFits, Columns, ColumnsFit, Writable, MeshFits};
@@ -52,8 +53,8 @@ fn section_length(m: &[i8], k: usize, n: u8) -> usize
 
 // How long the mesh is.
 fn mesh_length(c: Counts, m1: &[i8], m2: &[i8], m3: &[i8]) -> usize
-    requires { ⌜ Writable (pattern c (now m1) (now m2) (now m3)) ⌝ }
-    ensures { λ r. ⌜ r ≡ length (writeMesh (complex (pattern c (now (m1 .entry)) (now (m2 .entry)) (now (m3 .entry))))) ⌝ }
+    requires { ⌜ Writable (asLent c m1 m2 m3) ⌝ }
+    ensures { λ r. ⌜ r ≡ length (writeMesh (complex (atEntry c m1 m2 m3))) ⌝ }
 {
     let n = c.n;
     let seams = section_length(m1, 1, n[1]);
@@ -139,8 +140,8 @@ fn put_section(m: &[i8], k: usize, n: u8, out: &mut [u8], at: usize) -> usize
 
 // The mesh at the front of the buffer, and the place after it.
 fn put_mesh(c: Counts, m1: &[i8], m2: &[i8], m3: &[i8], out: &mut [u8]) -> usize
-    requires { ⌜ MeshFits (pattern c (now m1) (now m2) (now m3)) (now out) ⌝ }
-    ensures { λ next. ⌜ Put (now (out .entry)) 0 (writeMesh (complex (pattern c (now (m1 .entry)) (now (m2 .entry)) (now (m3 .entry))))) next (now (out .exit)) ⌝ }
+    requires { ⌜ MeshFits (asLent c m1 m2 m3) (now out) ⌝ }
+    ensures { λ next. ⌜ Put (now (out .entry)) 0 (writeMesh (complex (atEntry c m1 m2 m3))) next (now (out .exit)) ⌝ }
 {
     let n = c.n;
     let seams = put(out, 0, n[0]);
@@ -151,7 +152,7 @@ fn put_mesh(c: Counts, m1: &[i8], m2: &[i8], m3: &[i8], out: &mut [u8]) -> usize
 
 // A lent pattern is written as a mesh to the first bytes of the buffer, or refused by 1, 2 or 15, in this order, and then no byte is touched.
 pub fn write_mesh(c: Counts, m1: &[i8], m2: &[i8], m3: &[i8], out: &mut [u8]) -> MeshWritten
-    ensures { λ r. ⌜ record { answer = r; out = now (out .exit) } ≡ writeCall (pattern c (now (m1 .entry)) (now (m2 .entry)) (now (m3 .entry))) (now (out .entry)) ⌝ }
+    ensures { λ r. ⌜ record { answer = r; out = now (out .exit) } ≡ writeCall (atEntry c m1 m2 m3) (now (out .entry)) ⌝ }
 {
     let refusal = refusal_of_pattern(c, m1, m2, m3);
     if refusal != ACCEPTED {

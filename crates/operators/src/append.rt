@@ -2,9 +2,9 @@
 ghost use mathlib.Core.Path.{_≡_};
 ghost use mathlib.Core.Bool.{not, _&&_};
 ghost use Rattle.rules.specs.Good.{allZero, closes};
-ghost use Rattle.rules.specs.Calls.{lent, coefficients};
-ghost use Rattle.rules.specs.Complex.{pattern};
+ghost use Rattle.rules.specs.Calls.{coefficients};
 ghost use Rattle.rules.proofs.Stored.{layer};
+ghost use Rattle.rules.specs.Lending.{asLent, atEntry, left};
 ghost use Rattle.operators.specs.Append.{tried, setIf, appended, Storable, Closable, Appendable};
 use grid::changes::set_column;
 use grid::runs::are_zero;
@@ -43,8 +43,8 @@ pub(crate) fn append(
     m2: &mut [i8],
     m3: &mut [i8],
 ) -> bool
-    requires { ⌜ Appendable k (now column) (pattern c (now m1) (now m2) (now m3)) ⌝ }
-    ensures { λ r. ⌜ lent r (pattern c (now (m1 .exit)) (now (m2 .exit)) (now (m3 .exit))) ≡ appended k (coefficients (now (column .entry))) (pattern c (now (m1 .entry)) (now (m2 .entry)) (now (m3 .entry))) ⌝ }
+    requires { ⌜ Appendable k (now column) (asLent c m1 m2 m3) ⌝ }
+    ensures { λ r. ⌜ left r m1 m2 m3 ≡ appended k (coefficients (now (column .entry))) (atEntry c m1 m2 m3) ⌝ }
 {
     let n1 = c.n[1] as usize;
     let n2 = c.n[2] as usize;

@@ -3,8 +3,8 @@ ghost use mathlib.Core.Path.{_≡_};
 ghost use Rattle.rules.specs.Complex.{complex, stored};
 ghost use Rattle.rules.specs.Edits.{layers, flip};
 ghost use Rattle.rules.specs.Operators.{flipStep};
-ghost use Rattle.rules.specs.Calls.{lent, applied};
-ghost use Rattle.rules.specs.Complex.{pattern};
+ghost use Rattle.rules.specs.Calls.{applied};
+ghost use Rattle.rules.specs.Lending.{asLent, atEntry, atExit, left};
 ghost use Rattle.operators.specs.Held.{Held};
 ghost use Rattle.operators.specs.Cells.{Dimension, Cell};
 use grid::changes::negate_column;
@@ -16,8 +16,8 @@ use rules::refusals::NO_SUCH_CELL;
 
 // Cell `cell` is turned round in the matrices that have its column and its row; no matrix has a block's row.
 fn flip_at(c: Counts, dim: u8, cell: usize, m1: &mut [i8], m2: &mut [i8], m3: &mut [i8])
-    requires { ⌜ Cell 1 3 (pattern c (now m1) (now m2) (now m3)) dim cell ⌝ }
-    ensures { λ _. ⌜ pattern c (now (m1 .exit)) (now (m2 .exit)) (now (m3 .exit)) ≡ stored (layers (flip dim cell (complex (pattern c (now (m1 .entry)) (now (m2 .entry)) (now (m3 .entry)))))) ⌝ }
+    requires { ⌜ Cell 1 3 (asLent c m1 m2 m3) dim cell ⌝ }
+    ensures { λ _. ⌜ atExit c m1 m2 m3 ≡ stored (layers (flip dim cell (complex (atEntry c m1 m2 m3)))) ⌝ }
 {
     match dim {
         1 => {
@@ -35,8 +35,8 @@ fn flip_at(c: Counts, dim: u8, cell: usize, m1: &mut [i8], m2: &mut [i8], m3: &m
 // Flip dim: cell `cell` is turned round.
 pub fn flip(c: Counts, dim: u8, cell: u8, m1: &mut [i8], m2: &mut [i8], m3: &mut [i8]) -> Applied
     requires { ⌜ Dimension 1 3 dim ⌝ }
-    requires { ⌜ Held (pattern c (now m1) (now m2) (now m3)) ⌝ }
-    ensures { λ r. ⌜ lent r (pattern (r .counts) (now (m1 .exit)) (now (m2 .exit)) (now (m3 .exit))) ≡ applied (pattern c (now (m1 .entry)) (now (m2 .entry)) (now (m3 .entry))) (flipStep dim cell (complex (pattern c (now (m1 .entry)) (now (m2 .entry)) (now (m3 .entry))))) ⌝ }
+    requires { ⌜ Held (asLent c m1 m2 m3) ⌝ }
+    ensures { λ r. ⌜ left r m1 m2 m3 ≡ applied (atEntry c m1 m2 m3) (flipStep dim cell (complex (atEntry c m1 m2 m3))) ⌝ }
 {
     let k = dim as usize;
     if c.n[k] <= cell {

@@ -6,8 +6,8 @@ ghost use Rattle.rules.specs.Complex.{complex, stored};
 ghost use Rattle.rules.specs.Good.{allZero};
 ghost use Rattle.rules.specs.Edits.{kill};
 ghost use Rattle.rules.specs.Operators.{killStep};
-ghost use Rattle.rules.specs.Calls.{lent, applied};
-ghost use Rattle.rules.specs.Complex.{pattern};
+ghost use Rattle.rules.specs.Calls.{applied};
+ghost use Rattle.rules.specs.Lending.{asLent, atEntry, atExit, left};
 ghost use Rattle.operators.specs.Held.{Held};
 ghost use Rattle.operators.specs.Cells.{Dimension, Cell};
 use grid::removals::remove_column;
@@ -21,8 +21,8 @@ use rules::refusals::NO_SUCH_CELL;
 
 // Whether no cell has this one as a face: its row in the matrix above is zero, and nothing is above blocks.
 fn is_free(c: Counts, dim: u8, cell: usize, m1: &[i8], m2: &[i8], m3: &[i8]) -> bool
-    requires { ⌜ Cell 0 3 (pattern c (now m1) (now m2) (now m3)) dim cell ⌝ }
-    ensures { λ r. ⌜ r ≡ allZero (λ j. complex (pattern c (now (m1 .entry)) (now (m2 .entry)) (now (m3 .entry))) (suc dim) .d cell j) ⌝ }
+    requires { ⌜ Cell 0 3 (asLent c m1 m2 m3) dim cell ⌝ }
+    ensures { λ r. ⌜ r ≡ allZero (λ j. complex (atEntry c m1 m2 m3) (suc dim) .d cell j) ⌝ }
 {
     match dim {
         0 => row_zero(m1, cell),
@@ -34,8 +34,8 @@ fn is_free(c: Counts, dim: u8, cell: usize, m1: &[i8], m2: &[i8], m3: &[i8]) -> 
 
 // The cell's column and row are closed up; no matrix has a corner's column or a block's row.
 fn kill_at(c: Counts, dim: u8, cell: usize, m1: &mut [i8], m2: &mut [i8], m3: &mut [i8])
-    requires { ⌜ Cell 0 3 (pattern c (now m1) (now m2) (now m3)) dim cell ⌝ }
-    ensures { λ _. ⌜ pattern (shrunkAt c dim) (now (m1 .exit)) (now (m2 .exit)) (now (m3 .exit)) ≡ stored (kill dim cell (complex (pattern c (now (m1 .entry)) (now (m2 .entry)) (now (m3 .entry))))) ⌝ }
+    requires { ⌜ Cell 0 3 (asLent c m1 m2 m3) dim cell ⌝ }
+    ensures { λ _. ⌜ atExit (shrunkAt c dim) m1 m2 m3 ≡ stored (kill dim cell (complex (atEntry c m1 m2 m3))) ⌝ }
 {
     match dim {
         0 => remove_row(m1, cell),
@@ -54,8 +54,8 @@ fn kill_at(c: Counts, dim: u8, cell: usize, m1: &mut [i8], m2: &mut [i8], m3: &m
 // Kill dim: the cell is removed where no other has it as a face.
 pub fn kill(c: Counts, dim: u8, cell: u8, m1: &mut [i8], m2: &mut [i8], m3: &mut [i8]) -> Applied
     requires { ⌜ Dimension 0 3 dim ⌝ }
-    requires { ⌜ Held (pattern c (now m1) (now m2) (now m3)) ⌝ }
-    ensures { λ r. ⌜ lent r (pattern (r .counts) (now (m1 .exit)) (now (m2 .exit)) (now (m3 .exit))) ≡ applied (pattern c (now (m1 .entry)) (now (m2 .entry)) (now (m3 .entry))) (killStep dim cell (complex (pattern c (now (m1 .entry)) (now (m2 .entry)) (now (m3 .entry))))) ⌝ }
+    requires { ⌜ Held (asLent c m1 m2 m3) ⌝ }
+    ensures { λ r. ⌜ left r m1 m2 m3 ≡ applied (atEntry c m1 m2 m3) (killStep dim cell (complex (atEntry c m1 m2 m3))) ⌝ }
 {
     let k = dim as usize;
     if c.n[k] <= cell {

@@ -4,8 +4,8 @@ ghost use Prim.Native.Nat.{pred};
 ghost use Rattle.rules.specs.Complex.{complex};
 ghost use Rattle.rules.specs.Operators.{makeStep};
 ghost use Rattle.rules.specs.Form.{madeOf};
-ghost use Rattle.rules.specs.Calls.{lent, applied};
-ghost use Rattle.rules.specs.Complex.{pattern};
+ghost use Rattle.rules.specs.Calls.{applied};
+ghost use Rattle.rules.specs.Lending.{asLent, atEntry, left};
 ghost use Rattle.operators.specs.Held.{Held, MakeForm};
 use crate::append::append;
 use crate::faces::draw;
@@ -36,9 +36,9 @@ pub fn make(
     m2: &mut [i8],
     m3: &mut [i8],
 ) -> Applied
-    requires { ⌜ Held (pattern c (now m1) (now m2) (now m3)) ⌝ }
+    requires { ⌜ Held (asLent c m1 m2 m3) ⌝ }
     requires { ⌜ MakeForm (now s) dim list ⌝ }
-    ensures { λ r. ⌜ lent r (pattern (r .counts) (now (m1 .exit)) (now (m2 .exit)) (now (m3 .exit))) ≡ applied (pattern c (now (m1 .entry)) (now (m2 .entry)) (now (m3 .entry))) (makeStep dim (madeOf (now (s .entry)) dim list) (complex (pattern c (now (m1 .entry)) (now (m2 .entry)) (now (m3 .entry))))) ⌝ }
+    ensures { λ r. ⌜ left r m1 m2 m3 ≡ applied (atEntry c m1 m2 m3) (makeStep dim (madeOf (now (s .entry)) dim list) (complex (atEntry c m1 m2 m3))) ⌝ }
 {
     let k = dim as usize;
     let mut column = [0i8; 96];

@@ -8,9 +8,9 @@ ghost use Rattle.rules.specs.Complex.{complex, stored};
 ghost use Rattle.rules.specs.Good.{oneEach};
 ghost use Rattle.rules.specs.Edits.{merged, merge};
 ghost use Rattle.rules.specs.Operators.{proper, mergeStep};
-ghost use Rattle.rules.specs.Calls.{lent, applied};
-ghost use Rattle.rules.specs.Complex.{pattern};
+ghost use Rattle.rules.specs.Calls.{applied};
 ghost use Rattle.rules.proofs.Stored.{layer};
+ghost use Rattle.rules.specs.Lending.{asLent, atEntry, atExit, left};
 ghost use Rattle.operators.specs.Held.{Held};
 ghost use Rattle.operators.specs.Cells.{Dimension, Cell};
 ghost use Rattle.operators.specs.Joins.{summed, sidesOf, Addends, Apart, Between};
@@ -82,8 +82,8 @@ fn sides_in(d: &[i8], t: usize) -> Sides
 
 // The same in the pattern: the matrix above has a cell's row.
 fn sides_at(c: Counts, dim: u8, t: usize, m1: &[i8], m2: &[i8], m3: &[i8]) -> Sides
-    requires { ⌜ Cell 0 2 (pattern c (now m1) (now m2) (now m3)) dim t ⌝ }
-    ensures { λ r. ⌜ r ≡ sidesOf (complex (pattern c (now (m1 .entry)) (now (m2 .entry)) (now (m3 .entry))) (suc dim) .d) t ⌝ }
+    requires { ⌜ Cell 0 2 (asLent c m1 m2 m3) dim t ⌝ }
+    ensures { λ r. ⌜ r ≡ sidesOf (complex (atEntry c m1 m2 m3) (suc dim) .d) t ⌝ }
 {
     match dim {
         0 => sides_in(m1, t),
@@ -113,8 +113,8 @@ fn merge_at(
     m2: &mut [i8],
     m3: &mut [i8],
 )
-    requires { ⌜ Between (pattern c (now m1) (now m2) (now m3)) dim t a b ⌝ }
-    ensures { λ _. ⌜ pattern (shrunkAt (shrunkAt c dim) (dim + 1)) (now (m1 .exit)) (now (m2 .exit)) (now (m3 .exit)) ≡ stored (merge dim t a b (complex (pattern c (now (m1 .entry)) (now (m2 .entry)) (now (m3 .entry))))) ⌝ }
+    requires { ⌜ Between (asLent c m1 m2 m3) dim t a b ⌝ }
+    ensures { λ _. ⌜ atExit (shrunkAt (shrunkAt c dim) (dim + 1)) m1 m2 m3 ≡ stored (merge dim t a b (complex (atEntry c m1 m2 m3))) ⌝ }
 {
     match dim {
         0 => {
@@ -136,8 +136,8 @@ fn merge_at(
 // Merge at dim: the two cells that the cell lies between become one.
 pub fn merge(c: Counts, dim: u8, cell: u8, m1: &mut [i8], m2: &mut [i8], m3: &mut [i8]) -> Applied
     requires { ⌜ Dimension 0 2 dim ⌝ }
-    requires { ⌜ Held (pattern c (now m1) (now m2) (now m3)) ⌝ }
-    ensures { λ r. ⌜ lent r (pattern (r .counts) (now (m1 .exit)) (now (m2 .exit)) (now (m3 .exit))) ≡ applied (pattern c (now (m1 .entry)) (now (m2 .entry)) (now (m3 .entry))) (mergeStep dim cell (complex (pattern c (now (m1 .entry)) (now (m2 .entry)) (now (m3 .entry))))) ⌝ }
+    requires { ⌜ Held (asLent c m1 m2 m3) ⌝ }
+    ensures { λ r. ⌜ left r m1 m2 m3 ≡ applied (atEntry c m1 m2 m3) (mergeStep dim cell (complex (atEntry c m1 m2 m3))) ⌝ }
 {
     let k = dim as usize;
     if c.n[k] <= cell {

@@ -4,8 +4,8 @@ ghost use Rattle.maths.specs.Tables.{column};
 ghost use Rattle.rules.specs.Complex.{complex};
 ghost use Rattle.rules.specs.Operators.{chosen, splitStep};
 ghost use Rattle.rules.specs.Form.{chosenOf};
-ghost use Rattle.rules.specs.Calls.{lent, applied};
-ghost use Rattle.rules.specs.Complex.{pattern};
+ghost use Rattle.rules.specs.Calls.{applied};
+ghost use Rattle.rules.specs.Lending.{asLent, atEntry, left};
 ghost use Rattle.operators.specs.Held.{Held};
 ghost use Rattle.operators.specs.Part.{Choice};
 ghost use Rattle.operators.specs.Split.{SplitForm, Prepared, Splittable, around, divided, partStep, leaves};
@@ -64,8 +64,8 @@ fn split_at(
     m2: &mut [i8],
     m3: &mut [i8],
 ) -> u8
-    requires { ⌜ Prepared (pattern c (now m1) (now m2) (now m3)) (now s) dim cell list ⌝ }
-    ensures { λ r. ⌜ lent r (pattern c (now (m1 .exit)) (now (m2 .exit)) (now (m3 .exit))) ≡ leaves (pattern c (now (m1 .entry)) (now (m2 .entry)) (now (m3 .entry))) (partStep dim cell (chosenOf (now (s .entry)) dim list) (complex (pattern c (now (m1 .entry)) (now (m2 .entry)) (now (m3 .entry))))) ⌝ }
+    requires { ⌜ Prepared (asLent c m1 m2 m3) (now s) dim cell list ⌝ }
+    ensures { λ r. ⌜ left r m1 m2 m3 ≡ leaves (atEntry c m1 m2 m3) (partStep dim cell (chosenOf (now (s .entry)) dim list) (complex (atEntry c m1 m2 m3))) ⌝ }
 {
     let k = dim as usize;
     let t = c.n[k - 1] as usize;
@@ -89,9 +89,9 @@ pub fn split(
     m2: &mut [i8],
     m3: &mut [i8],
 ) -> Applied
-    requires { ⌜ Held (pattern c (now m1) (now m2) (now m3)) ⌝ }
+    requires { ⌜ Held (asLent c m1 m2 m3) ⌝ }
     requires { ⌜ SplitForm (now s) dim cell list ⌝ }
-    ensures { λ r. ⌜ lent r (pattern (r .counts) (now (m1 .exit)) (now (m2 .exit)) (now (m3 .exit))) ≡ applied (pattern c (now (m1 .entry)) (now (m2 .entry)) (now (m3 .entry))) (splitStep dim cell (chosenOf (now (s .entry)) dim list) (complex (pattern c (now (m1 .entry)) (now (m2 .entry)) (now (m3 .entry))))) ⌝ }
+    ensures { λ r. ⌜ left r m1 m2 m3 ≡ applied (atEntry c m1 m2 m3) (splitStep dim cell (chosenOf (now (s .entry)) dim list) (complex (atEntry c m1 m2 m3))) ⌝ }
 {
     let k = dim as usize;
     let below = c.n[k - 1];

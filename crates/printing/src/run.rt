@@ -1,9 +1,8 @@
 // What the program makes of its input.
 ghost use mathlib.Core.Path.{_≡_};
-ghost use Rattle.rules.specs.Complex.{pattern};
-ghost use Rattle.rules.specs.Calls.{lent};
 ghost use Rattle.mesh.specs.Reading.{Long};
 ghost use Rattle.printing.specs.Input.{runInput};
+ghost use Rattle.rules.specs.Lending.{left};
 use engine::euler::euler;
 use engine::read_mesh;
 use engine::run_script;
@@ -22,7 +21,7 @@ pub struct InputRun {
 // The mesh at the front of the bytes is read into three matrices, and the script after it is run on them.
 pub(crate) fn run_input(s: &[u8], m1: &mut [i8], m2: &mut [i8], m3: &mut [i8]) -> InputRun
     requires { ⌜ Long (now m1) (now m2) (now m3) ⌝ }
-    ensures { λ r. ⌜ lent r (pattern (r .counts) (now (m1 .exit)) (now (m2 .exit)) (now (m3 .exit))) ≡ runInput (now (s .entry)) ⌝ }
+    ensures { λ r. ⌜ left r m1 m2 m3 ≡ runInput (now (s .entry)) ⌝ }
 {
     let read = read_mesh(s, m1, m2, m3);
     let c = read.counts;

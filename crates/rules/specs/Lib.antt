@@ -9,5 +9,6 @@ pub mod Mesh
 pub mod Script
 pub mod Chains
 pub mod Calls
+pub mod Lending
 pub mod Printed
 pub mod Cases
