@@ -15,8 +15,8 @@ use Rattle.rules.specs.Complex.{Pattern, complex}
 use Rattle.rules.specs.Operators.{step}
 use Rattle.rules.specs.Form.{operatorAt, loneOperator, facesOf, faultNumber}
 use Rattle.rules.specs.Calls.{Lent, lent, applied, applyCall}
-use Rattle.rules.proofs.FirstTests.{both-passed, first-refused}
-use Rattle.rules.proofs.Fields.{bad-operator, after-operator}
+use Rattle.rules.proofs.branches.FirstTests.{both-passed, first-refused}
+use Rattle.rules.proofs.bytes.Fields.{bad-operator, after-operator}
 use Rattle.good.specs.Tested.{tested}
 use Rattle.engine.specs.Source.{ReadFrom}
 

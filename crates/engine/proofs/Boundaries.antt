@@ -14,8 +14,8 @@ use Rattle.rules.specs.Edits.{boundary}
 use Rattle.rules.specs.Form.{within}
 use Rattle.rules.specs.Chains.{isChain, boundaryLimit}
 use Rattle.rules.specs.Calls.{sizedChain, coefficients, boundaryCall}
-use Rattle.rules.proofs.FirstTests.{both-passed}
-use Rattle.rules.proofs.Limits.{chain-limit}
+use Rattle.rules.proofs.branches.FirstTests.{both-passed}
+use Rattle.rules.proofs.calls.Limits.{chain-limit}
 use Rattle.good.specs.Tested.{tested}
 use Rattle.engine.specs.Boundaries.{product, matrixOf, Factors}
 use Rattle.engine.proofs.FirstTests.{held, refusedBy, chains-short, chain-long, out-long, chains-refused, chains-sized}

@@ -19,11 +19,11 @@ use Rattle.rules.specs.Edits.{Step, kept, put, make, split, negated, flip}
 use Rattle.rules.specs.Operators.{Faces, edited, chainOf, chosen, step}
 use Rattle.rules.specs.Chains.{isChain, carryStep}
 use Rattle.rules.specs.Calls.{coefficients}
-use Rattle.rules.proofs.Branches.{refused-edited}
-use Rattle.rules.proofs.Decoded.{Formed}
-use Rattle.rules.proofs.Frame.{Within}
-use Rattle.rules.proofs.Changes.{at3-each, put-zero}
-use Rattle.rules.proofs.Passed.{make-tests, split-tests, flip-tests}
+use Rattle.rules.proofs.branches.Branches.{refused-edited}
+use Rattle.rules.proofs.bytes.Decoded.{Formed}
+use Rattle.rules.proofs.layers.Frame.{Within}
+use Rattle.rules.proofs.layers.Changes.{at3-each, put-zero}
+use Rattle.rules.proofs.accepting.Passed.{make-tests, split-tests, flip-tests}
 use Rattle.engine.specs.Carrying.{rewritten}
 
 -- a chain that a call takes is 0 past the count

@@ -17,11 +17,11 @@ use Rattle.rules.specs.Counts.{countOf}
 use Rattle.rules.specs.Complex.{Pattern, complex}
 use Rattle.rules.specs.Form.{within, loneOperator, facesOf, faultNumber}
 use Rattle.rules.specs.Chains.{isChain, carryLimit, carryStep}
-use Rattle.rules.specs.Calls.{Given, sizedChain, coefficients, carryCall}
-use Rattle.rules.proofs.FirstTests.{both-passed}
-use Rattle.rules.proofs.Limits.{chain-limit}
+use Rattle.rules.specs.Calls.{Given, sizedChain, coefficients, carryCall, carriedBy}
+use Rattle.rules.proofs.branches.FirstTests.{both-passed}
+use Rattle.rules.proofs.calls.Limits.{chain-limit}
 use Rattle.good.specs.Tested.{tested}
-use Rattle.engine.specs.Carrying.{numberOf, rewritten, Writable, Carriable, carriedBy}
+use Rattle.engine.specs.Carrying.{numberOf, rewritten, Writable, Carriable}
 use Rattle.engine.proofs.FirstTests.{refusedBy, chains-short, chains-refused, chains-sized}
 use Rattle.engine.proofs.Dimensions.{count-is}
 use Rattle.engine.proofs.Shapes.{formed}

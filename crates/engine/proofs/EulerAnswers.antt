@@ -7,7 +7,7 @@ use Rattle.rules.specs.Refusals.{accepted}
 use Rattle.rules.specs.Counts.{countOf}
 use Rattle.rules.specs.Complex.{Pattern, bare, euler}
 use Rattle.rules.specs.Calls.{eulerCall}
-use Rattle.rules.proofs.FirstTests.{both-passed, first-refused}
+use Rattle.rules.proofs.branches.FirstTests.{both-passed, first-refused}
 use Rattle.good.specs.Tested.{tested}
 
 module _ (p : Pattern) where

@@ -16,7 +16,7 @@ use Rattle.rules.specs.declared.operator.Operator.the-variants.{Make, Kill, Spl
 use Rattle.rules.specs.Complex.{Chain}
 use Rattle.rules.specs.Edits.{put, negated}
 use Rattle.rules.specs.Calls.{coefficients}
-use Rattle.rules.proofs.Changes.{put-same, put-no}
+use Rattle.rules.proofs.layers.Changes.{put-same, put-no}
 use Rattle.engine.specs.Carrying.{rewritten, Writable}
 
 module _ {o : Operator} {n d : ℕ} {c out after : List ℤ} (w : Writable o n d c out) (e : after ≡ c) where

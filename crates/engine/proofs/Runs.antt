@@ -16,10 +16,10 @@ use Rattle.rules.specs.Operators.{step}
 use Rattle.rules.specs.Form.{operatorAt, facesOf, faultNumber}
 use Rattle.rules.specs.Script.{ended, runOne, runFrom}
 use Rattle.rules.specs.Calls.{lent, applied}
-use Rattle.rules.proofs.Numbers.{fault-numbered}
+use Rattle.rules.proofs.branches.Numbers.{fault-numbered}
 use Rattle.operators.specs.Held.{Held}
-use Rattle.operators.proofs.Kept.{left, applied-held}
-use Rattle.operators.proofs.Answered.{answer-accepted, answer-refused}
+use Rattle.operators.proofs.patterns.Kept.{left, applied-held}
+use Rattle.operators.proofs.patterns.Answered.{answer-accepted, answer-refused}
 use Rattle.engine.specs.Source.{ReadFrom}
 use Rattle.engine.specs.Running.{here, Runnable, Turned, RunTo}
 use Rattle.engine.proofs.Shapes.{formed}

@@ -16,13 +16,13 @@ use Rattle.rules.specs.declared.form.Fault.{Fault}
 use Rattle.rules.specs.declared.form.Field.{Field}
 use Rattle.rules.specs.Refusals.{accepted, wrongLength, stale}
 use Rattle.rules.specs.Counts.{countOf}
-use Rattle.rules.specs.Complex.{Pattern, complex, countsOf, stored}
+use Rattle.rules.specs.Complex.{Pattern, complex, countsOf, stored, Sized}
 use Rattle.rules.specs.Form.{operatorAt, byteAt, wordAt, countsAt, operatorsAt, scriptForm, faultNumber}
 use Rattle.rules.specs.Script.{Ended, ended, runFrom, sameBase, runScript}
 use Rattle.rules.specs.Calls.{Lent, lent, sized, runCall}
-use Rattle.rules.proofs.FirstTests.{both-passed, first-refused}
-use Rattle.rules.proofs.Fields.{bad-field, after-got, after-operator, word-says}
-use Rattle.rules.proofs.Stored.{Sized, stored-complex}
+use Rattle.rules.proofs.branches.FirstTests.{both-passed, first-refused}
+use Rattle.rules.proofs.bytes.Fields.{bad-field, after-got, after-operator, word-says}
+use Rattle.rules.proofs.storage.Stored.{stored-complex}
 use Rattle.good.specs.Tested.{tested}
 use Rattle.engine.specs.Running.{here, RunTo}
 use Rattle.engine.proofs.FirstTests.{held}

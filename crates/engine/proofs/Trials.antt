@@ -11,9 +11,9 @@ use Rattle.rules.specs.Edits.{Step}
 use Rattle.rules.specs.Operators.{Faces, Outcome, refused, edited, removed, step}
 use Rattle.rules.specs.Chains.{carryStep, afterCarry}
 use Rattle.rules.specs.Calls.{Lent, applied}
-use Rattle.rules.proofs.Branches.{refused-removed}
-use Rattle.rules.proofs.Numbers.{carry-numbered}
-use Rattle.rules.proofs.Passed.{make-keeps, split-keeps, flip-keeps}
+use Rattle.rules.proofs.branches.Branches.{refused-removed}
+use Rattle.rules.proofs.branches.Numbers.{carry-numbered}
+use Rattle.rules.proofs.accepting.Passed.{make-keeps, split-keeps, flip-keeps}
 use Rattle.engine.specs.Carrying.{numberOf}
 
 -- an operator that was applied answers its number

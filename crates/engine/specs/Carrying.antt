@@ -9,12 +9,10 @@ use lib.ListN.{length, getD}
 use Rattle.rules.specs.declared.operator.Operator.{Operator}
 use Rattle.rules.specs.declared.operator.Operator.the-variants.{Make, Kill, Split, Merge, Flip}
 use Rattle.rules.specs.Refusals.{accepted}
-use Rattle.rules.specs.Complex.{Pattern, Chain, complex}
+use Rattle.rules.specs.Complex.{Pattern, Chain}
 use Rattle.rules.specs.Edits.{put, negated}
 use Rattle.rules.specs.Operators.{Outcome, refused, edited, removed}
-use Rattle.rules.specs.Form.{facesOf}
-use Rattle.rules.specs.Chains.{carryLimit, carryStep, afterCarry}
-use Rattle.rules.specs.Calls.{Given, onChain}
+use Rattle.rules.specs.Chains.{carryLimit}
 use Rattle.operators.specs.Held.{Held}
 use Rattle.engine.specs.Source.{ReadFrom}
 
@@ -48,10 +46,3 @@ pub record Carriable (p : Pattern) (s : List ℕ) (o : Operator) (d : ℕ) (c ou
   pub dim : d ≤ 3
   pub long : length c ≡ 96
   pub room : length out ≡ 96
-
--- what carrying answers, once the operator is read
-unfoldable pub carriedBy : Pattern → List ℕ → Operator → ℕ → List ℤ → List ℤ → Given
-carriedBy p s o d c out =
-    let refuse : ℕ → Given = λ r. record { refusal = r; out = out } in
-    afterCarry (carryStep o (facesOf s o) (complex p)) refuse λ S.
-    onChain carryLimit (complex p d .n) c refuse (S d .carried)

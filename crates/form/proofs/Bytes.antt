@@ -9,7 +9,7 @@ use lib.ListN.{length, getD}
 use Rattle.rules.specs.Form.{judged, byteAt, wordAt}
 use Rattle.rules.specs.declared.form.Fault.{Fault}
 use Rattle.rules.specs.declared.form.Field.{Field}
-use Rattle.rules.proofs.Fields.{Byte, byte-says}
+use Rattle.rules.proofs.bytes.Fields.{Byte, byte-says}
 use Rattle.form.proofs.Ranges.{In, Out, inside, outside}
 
 -- the field at `at` whose last byte is at `last` and whose value is x, to be from low to high

@@ -15,9 +15,9 @@ use Rattle.maths.proofs.Tests.{zero-true, unit-true, all-at, all-same, count-sa
 use Rattle.maths.proofs.Dots.{dot-same}
 use Rattle.maths.proofs.Tables.{entries-in, entries-out, in-or-out}
 use Rattle.rules.specs.Good.{times, oneEach, allZero, inPlace, closes}
-use Rattle.rules.proofs.Judged.{closes-rows}
+use Rattle.rules.specs.Complex.{layer}
+use Rattle.rules.proofs.layers.Judged.{closes-rows}
 use Rattle.grid.specs.Grid.{Summands, columnSum, run}
-use Rattle.rules.proofs.Stored.{layer}
 use Rattle.good.specs.Columns.{columnInPlace, Matrix, Neighbours}
 use Rattle.good.specs.Parts.{Placed}
 use Rattle.good.proofs.Tests.{all-split, all-columns}

@@ -4,7 +4,7 @@ ghost use Prim.Native.Nat.{_≤_};
 ghost use Rattle.maths.specs.Tests.{all};
 ghost use Rattle.maths.specs.Tables.{entries};
 ghost use Rattle.rules.specs.Good.{closes};
-ghost use Rattle.rules.proofs.Stored.{layer};
+ghost use Rattle.rules.specs.Complex.{layer};
 ghost use Rattle.good.specs.Columns.{Neighbours};
 use grid::sums::columns_cancel;
 

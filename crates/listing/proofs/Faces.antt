@@ -17,7 +17,7 @@ use Rattle.maths.proofs.Sums.{join-most}
 use Rattle.maths.proofs.Buffers.{Pieces}
 use Rattle.rules.specs.Complex.{Chain}
 use Rattle.rules.specs.Printed.{text, decimal, signedFace}
-use Rattle.rules.proofs.FaceTexts.{oneFace}
+use Rattle.rules.specs.Mesh.{oneFace}
 use Rattle.listing.proofs.Decimals.{decimal-2}
 
 -- an entry below 0, above 0, and neither

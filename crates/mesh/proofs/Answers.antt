@@ -12,9 +12,9 @@ use Rattle.rules.specs.Refusals.{accepted, shortOutput}
 use Rattle.rules.specs.Complex.{Pattern, complex}
 use Rattle.rules.specs.Mesh.{writeMesh}
 use Rattle.rules.specs.Calls.{Wrote, writeCall}
-use Rattle.rules.proofs.FirstTests.{both-passed, first-refused}
-use Rattle.rules.proofs.Stored.{lengths}
-use Rattle.rules.proofs.Tested.{complex-bounded, good-true}
+use Rattle.rules.proofs.branches.FirstTests.{both-passed, first-refused}
+use Rattle.rules.proofs.storage.Stored.{lengths}
+use Rattle.rules.proofs.storage.Tested.{complex-bounded, good-true}
 use Rattle.good.specs.Tested.{tested}
 use Rattle.mesh.specs.Writing.{Writable}
 

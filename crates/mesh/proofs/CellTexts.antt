@@ -15,10 +15,10 @@ use Rattle.maths.proofs.Cases.{by-bool}
 use Rattle.maths.proofs.Tests.{count-le, last-le}
 use Rattle.maths.proofs.Sums.{join-zero, join-next, join-most}
 use Rattle.rules.specs.Complex.{Chain}
-use Rattle.rules.specs.Mesh.{faceWith, pair, eachFace, writeCell}
-use Rattle.rules.proofs.FaceTexts.{oneFace, faces-are}
-use Rattle.rules.proofs.Limits.{cell-length}
-use Rattle.mesh.specs.Writing.{faceCount, seamText, listText, cells}
+use Rattle.rules.specs.Mesh.{faceWith, pair, eachFace, writeCell, oneFace, faceCount}
+use Rattle.rules.proofs.texts.FaceTexts.{faces-are}
+use Rattle.rules.proofs.calls.Limits.{cell-length}
+use Rattle.mesh.specs.Writing.{seamText, listText, cells}
 
 -- two bytes for each face
 faces-below : (n : ℕ) (v : Chain) → length (join n (λ i. oneFace pair i (v i))) ≡ 2 * count n (λ i. not (isZero (v i)))

@@ -18,11 +18,11 @@ use Rattle.rules.specs.Operators.{makeStep, step}
 use Rattle.rules.specs.Form.{faultNumber, byteAt, makeAt, madeOf}
 use Rattle.rules.specs.Mesh.{Reading, faulty, refused, Place, readCell, readSection}
 use Rattle.rules.specs.Calls.{lent, applied}
-use Rattle.rules.proofs.Numbers.{fault-numbered}
-use Rattle.rules.proofs.Decoded.{made}
+use Rattle.rules.proofs.branches.Numbers.{fault-numbered}
+use Rattle.rules.proofs.bytes.Decoded.{made}
 use Rattle.operators.specs.Held.{Held, MakeForm}
-use Rattle.operators.proofs.Kept.{applied-held}
-use Rattle.operators.proofs.Answered.{answer-accepted, answer-refused}
+use Rattle.operators.proofs.patterns.Kept.{applied-held}
+use Rattle.operators.proofs.patterns.Answered.{answer-accepted, answer-refused}
 use Rattle.mesh.specs.Reading.{Readable, Went}
 
 -- a part that is a fault of the form

@@ -15,11 +15,11 @@ use Rattle.rules.specs.Complex.{Pattern, pattern, Complex, complex, countsOf, e
 use Rattle.rules.specs.Form.{faultNumber, byteAt}
 use Rattle.rules.specs.Mesh.{Reading, faulty, refused, taken, Place, corners, readSection, readMesh, afterReading}
 use Rattle.rules.specs.Calls.{lent, sized, noMesh, readCall}
-use Rattle.rules.proofs.Fields.{byte-says}
-use Rattle.rules.proofs.Numbers.{fault-numbered}
-use Rattle.rules.proofs.ReadGood.{corners-good}
-use Rattle.rules.proofs.Stored.{lengths, complex-stored, stored-complex}
-use Rattle.operators.proofs.Kept.{stored-held}
+use Rattle.rules.proofs.bytes.Fields.{byte-says}
+use Rattle.rules.proofs.branches.Numbers.{fault-numbered}
+use Rattle.rules.proofs.texts.ReadGood.{corners-good}
+use Rattle.rules.proofs.storage.Stored.{lengths, complex-stored, stored-complex}
+use Rattle.operators.proofs.patterns.Kept.{stored-held}
 use Rattle.mesh.specs.Reading.{Long, Zeros, zeros, refusalOf, Went, from, Sofar, Next}
 
 module _ (s : List ℕ) where

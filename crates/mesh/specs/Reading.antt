@@ -9,9 +9,8 @@ use Rattle.maths.specs.Tables.{tab}
 use Rattle.rules.specs.declared.counts.Counts.{Counts}
 use Rattle.rules.specs.declared.answers.MeshRead.{MeshRead}
 use Rattle.rules.specs.Refusals.{accepted}
-use Rattle.rules.specs.Complex.{Pattern, complex}
+use Rattle.rules.specs.Complex.{Pattern, complex, pattern}
 use Rattle.rules.specs.Mesh.{Reading, taken, Place, readSection, readMesh, afterReading}
-use Rattle.rules.specs.Complex.{pattern}
 use Rattle.operators.specs.Held.{Held}
 
 -- a good pattern, and a dimension

@@ -1,20 +1,14 @@
 -- The texts of a mesh by stored matrix, and what it is to put a text into a buffer.
 use mathlib.Core.Path.{_≡_}
-use mathlib.Core.Bool.{not}
 use mathlib.Core.List.{List, [], _∷_}
 use Prim.Native.Nat.{ℕ, _<_, _≤_}
 use lib.IntN.{ℤ}
 use lib.ListN.{length}
-use Rattle.maths.specs.Tests.{isZero, count}
 use Rattle.maths.specs.Sums.{join}
 use Rattle.maths.specs.Tables.{column}
 use Rattle.maths.specs.Buffers.{Fits}
 use Rattle.rules.specs.Complex.{Pattern, Chain, complex}
-use Rattle.rules.specs.Mesh.{tailOf, headOf, pair, eachFace, writeCell, writeMesh}
-
--- how many faces a cell has
-abbrev pub faceCount : Chain → ℕ
-faceCount v = count 96 (λ i. not (isZero (v i)))
+use Rattle.rules.specs.Mesh.{faceCount, tailOf, headOf, pair, eachFace, writeCell, writeMesh}
 
 -- a seam, and a cell of a higher dimension
 abbrev pub seamText : Chain → List ℕ

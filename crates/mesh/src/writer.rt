@@ -1,20 +1,17 @@
 // Writing a mesh: its length is found first, and then every byte goes to its place.
 ghost use mathlib.Core.Path.{_≡_};
 ghost use mathlib.Core.Bool.{cond};
-ghost use mathlib.Core.List.{[], _∷_};
 ghost use lib.IntN.{pos};
 ghost use lib.ListN.{length};
 ghost use Rattle.maths.specs.Tests.{eqZ};
 ghost use Rattle.maths.specs.Tables.{column};
 ghost use Rattle.maths.specs.Buffers.{Put, Fits};
 ghost use Rattle.rules.specs.Complex.{complex};
-ghost use Rattle.rules.specs.Mesh.{pair, eachFace, writeCell, writeMesh};
+ghost use Rattle.rules.specs.Mesh.{pair, eachFace, writeCell, writeMesh, oneFace};
 ghost use Rattle.rules.specs.Calls.{writeCall};
-ghost use Rattle.rules.proofs.FaceTexts.{oneFace};
 ghost use Rattle.rules.specs.Lending.{asLent, atEntry};
 ghost use Rattle.grid.specs.Grid.{Line};
-ghost use Rattle.mesh.specs.Writing.{seamText, listText, sectionText};
-ghost use Rattle.mesh.specs.Writing.{ColumnFits, Columns, ColumnsFit, Writable, MeshFits};
+ghost use Rattle.mesh.specs.Writing.{seamText, listText, sectionText, ColumnFits, Columns, ColumnsFit, Writable, MeshFits};
 use buffer::put;
 use buffer::put_two;
 use good::refusal_of_pattern;

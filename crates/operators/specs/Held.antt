@@ -4,10 +4,9 @@ use mathlib.Core.List.{List}
 use Prim.Native.Nat.{ℕ, _≤_}
 use Rattle.rules.specs.declared.form.OperatorForm.{OperatorForm}
 use Rattle.rules.specs.declared.operator.Operator.{Operator}
-use Rattle.rules.specs.Complex.{Pattern, complex}
+use Rattle.rules.specs.Complex.{Pattern, complex, Sized}
 use Rattle.rules.specs.Good.{Good}
 use Rattle.rules.specs.Form.{makeAt}
-use Rattle.rules.proofs.Stored.{Sized}
 
 -- a good pattern, of the right lengths
 pub record Held (p : Pattern) : Type 0 where

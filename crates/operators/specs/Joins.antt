@@ -10,8 +10,7 @@ use Rattle.grid.specs.Grid.{Units, UnitLines}
 use Rattle.rules.specs.Refusals.{notBetween, wrongSum}
 use Rattle.rules.specs.Complex.{Pattern, Chain, complex}
 use Rattle.rules.specs.Good.{oneEach}
-use Rattle.rules.specs.Operators.{proper}
-use Rattle.rules.proofs.Sides.{lower, higher}
+use Rattle.rules.specs.Operators.{proper, lower, higher}
 use Rattle.operators.specs.Cells.{Cell}
 use Rattle.operators.specs.declared.merge.Sides.{Sides}
 

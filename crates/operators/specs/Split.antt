@@ -12,12 +12,11 @@ use Rattle.grid.specs.Grid.{Units, Lines, LineFor}
 use Rattle.rules.specs.declared.form.OperatorForm.{OperatorForm}
 use Rattle.rules.specs.declared.operator.Operator.{Operator}
 use Rattle.rules.specs.Refusals.{accepted, wrongPart, wrongDivider}
-use Rattle.rules.specs.Complex.{Pattern, Complex, Chain, bare, complex, stored}
+use Rattle.rules.specs.Complex.{Pattern, Complex, Chain, bare, complex, stored, layer}
 use Rattle.rules.specs.Edits.{boundary, part, divider, halves, repeated, split}
 use Rattle.rules.specs.Operators.{Faces, chosen, isPart, divides, Outcome, edited, unless, afterStep}
 use Rattle.rules.specs.Form.{splitAt}
 use Rattle.rules.specs.Calls.{Lent, lent, coefficients}
-use Rattle.rules.proofs.Stored.{layer}
 use Rattle.operators.specs.Boundary.{edge}
 use Rattle.operators.specs.Held.{Held}
 use Rattle.operators.specs.Part.{Choice, partOf}

@@ -14,8 +14,8 @@ use Rattle.rules.specs.Good.{Good}
 use Rattle.rules.specs.Script.{Ended, ended}
 use Rattle.rules.specs.Calls.{Lent, lent}
 use Rattle.rules.specs.Printed.{cellLines, printedMesh, printedRun, printed}
-use Rattle.rules.proofs.Stored.{complex-stored}
-use Rattle.rules.proofs.ReadGood.{read-good, mesh-each}
+use Rattle.rules.proofs.storage.Stored.{complex-stored}
+use Rattle.rules.proofs.texts.ReadGood.{read-good, mesh-each}
 use Rattle.listing.specs.Pieces.{columnLines, runText}
 use Rattle.listing.proofs.Printed.{printed-run, printed-listing}
 use Rattle.printing.specs.declared.run.InputRun.{InputRun}

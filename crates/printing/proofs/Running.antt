@@ -15,12 +15,12 @@ use Rattle.rules.specs.Complex.{Pattern, Complex, pattern, stored, euler}
 use Rattle.rules.specs.Good.{Good, isGood}
 use Rattle.rules.specs.Script.{Ended}
 use Rattle.rules.specs.Calls.{Lent, lent, sized, sizedScript, readCall, runCall, eulerCall}
-use Rattle.rules.proofs.Branches.{good-each}
-use Rattle.rules.proofs.Stored.{complex-stored, sized-is, stored-sized}
-use Rattle.rules.proofs.Tested.{good-is}
-use Rattle.rules.proofs.Runs.{script-kept}
-use Rattle.rules.proofs.ReadGood.{read-good, mesh-each}
-use Rattle.rules.proofs.WrittenRead.{written-read}
+use Rattle.rules.proofs.branches.Branches.{good-each}
+use Rattle.rules.proofs.storage.Stored.{complex-stored, sized-is, stored-sized}
+use Rattle.rules.proofs.storage.Tested.{good-is}
+use Rattle.rules.proofs.scripts.Runs.{script-kept}
+use Rattle.rules.proofs.texts.ReadGood.{read-good, mesh-each}
+use Rattle.rules.proofs.texts.WrittenRead.{written-read}
 use Rattle.engine.proofs.ScriptAnswers.{answered}
 use Rattle.printing.specs.declared.run.InputRun.{InputRun}
 use Rattle.printing.specs.Input.{endOf, ranTo, runInput}

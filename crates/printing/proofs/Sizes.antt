@@ -12,11 +12,11 @@ use Rattle.rules.specs.Form.{scriptForm}
 use Rattle.rules.specs.Mesh.{readMesh}
 use Rattle.rules.specs.Script.{Ended, Here, runFrom, sameBase, runScript}
 use Rattle.rules.specs.Calls.{Lent, sizedScript}
-use Rattle.rules.proofs.Branches.{cond-each, after-each, good-each, reading-each}
-use Rattle.rules.proofs.Stored.{stored-sized}
-use Rattle.rules.proofs.Eulers.{euler-size}
-use Rattle.rules.proofs.Runs.{run-kept}
-use Rattle.rules.proofs.ReadGood.{read-good}
+use Rattle.rules.proofs.branches.Branches.{cond-each, after-each, good-each, reading-each}
+use Rattle.rules.proofs.storage.Stored.{stored-sized}
+use Rattle.rules.proofs.scripts.Eulers.{euler-size}
+use Rattle.rules.proofs.scripts.Runs.{run-kept}
+use Rattle.rules.proofs.texts.ReadGood.{read-good}
 use Rattle.engine.proofs.ScriptAnswers.{script-says}
 use Rattle.printing.specs.declared.run.InputRun.{InputRun}
 use Rattle.printing.specs.Input.{endOf, ranTo, runInput}

@@ -11,6 +11,7 @@ use Rattle.rules.specs.declared.answers.MeshWritten.{MeshWritten}
 use Rattle.rules.specs.declared.answers.EulerNumber.{EulerNumber}
 use Rattle.rules.specs.declared.answers.Applied.{Applied}
 use Rattle.rules.specs.declared.answers.ScriptRun.{ScriptRun}
+use Rattle.rules.specs.declared.operator.Operator.{Operator}
 use Rattle.rules.specs.Refusals.{accepted, wrongLength, notGood, wrongForm, shortOutput, wrongChain}
 use Rattle.rules.specs.Complex.{Pattern, Complex, Chain, empty, complex, countsOf, stored, euler}
 use Rattle.rules.specs.Good.{isGood}
@@ -116,13 +117,18 @@ boundaryCall p d c out =
     onGood (sized p && sizedChain c && sizedChain out) (complex p) refuse λ X.
     cond (within 1 3 d) (onChain boundaryLimit (X d .n) c refuse (boundary (X d))) (refuse wrongForm)
 
+-- what carrying answers, once the operator o is read from the bytes s: 17 and its own refusals, then 16, or the carried chain
+unfoldable pub carriedBy : Pattern → List ℕ → Operator → ℕ → List ℤ → List ℤ → Given
+carriedBy p s o d c out =
+    let refuse : ℕ → Given = λ r. record { refusal = r; out = out } in
+    afterCarry (carryStep o (facesOf s o) (complex p)) refuse λ S.
+    onChain carryLimit (complex p d .n) c refuse (S d .carried)
+
 -- "Carrying (d = 0 to 3) takes a pattern, one operator and a chain, leaves the pattern as it is, and writes the carried chain"
 unfoldable pub carryCall : Pattern → List ℕ → ℕ → List ℤ → List ℤ → Given
 carryCall p s d c out =
     let refuse : ℕ → Given = λ r. record { refusal = r; out = out } in
     onGood (sized p && sizedChain c && sizedChain out) (complex p) refuse λ X.
     cond (within 0 3 d)
-    (afterOperator (loneOperator s) (λ f. refuse (faultNumber f)) λ o next.
-    afterCarry (carryStep o (facesOf s o) X) refuse λ S.
-    onChain carryLimit (X d .n) c refuse (S d .carried))
+    (afterOperator (loneOperator s) (λ f. refuse (faultNumber f)) λ o next. carriedBy p s o d c out)
     (refuse wrongForm)

@@ -1,7 +1,9 @@
 -- A pattern as it is stored, and as a complex: a layer of cells for each dimension.
+use mathlib.Core.Path.{_≡_}
 use mathlib.Core.List.{List, [], _∷_}
 use Prim.Native.Nat.{ℕ, zero, suc}
 use lib.IntN.{ℤ, pos, _+ℤ_, _-ℤ_}
+use lib.ListN.{length}
 use Rattle.maths.specs.Tables.{Entries, entries, tab}
 use Rattle.rules.specs.declared.counts.Counts.{Counts}
 use Rattle.rules.specs.Counts.{countOf}
@@ -16,10 +18,21 @@ pub record Pattern : Type 0 where
 abbrev pub pattern : Counts → List ℤ → List ℤ → List ℤ → Pattern
 pattern c m1 m2 m3 = record { counts = c; m1 = m1; m2 = m2; m3 = m3 }
 
+-- a stored pattern of the right lengths
+pub record Sized (p : Pattern) : Type 0 where
+  pub four : length (p .counts .n) ≡ 4
+  pub size1 : length (p .m1) ≡ 9216
+  pub size2 : length (p .m2) ≡ 9216
+  pub size3 : length (p .m3) ≡ 9216
+
 -- The cells of one dimension k: how many, and matrix k. "A row per cell of dimension k-1 and a column per cell of dimension k."
 pub record Layer : Type 0 where
   pub n : ℕ
   pub d : Entries
+
+-- the cells whose matrix is stored in m
+abbrev pub layer : ℕ → List ℤ → Layer
+layer n m = record { n = n; d = entries m }
 
 -- "Cells of dimension 0 (corner), 1 (seam), 2 (panel), 3 (block)"
 abbrev pub Complex : Type 0
@@ -40,9 +53,9 @@ empty k = bare 0
 -- the complex of a stored pattern
 abbrev pub complex : Pattern → Complex
 complex p zero = bare (countOf (p .counts) 0)
-complex p (suc zero) = record { n = countOf (p .counts) 1; d = entries (p .m1) }
-complex p (suc (suc zero)) = record { n = countOf (p .counts) 2; d = entries (p .m2) }
-complex p (suc (suc (suc zero))) = record { n = countOf (p .counts) 3; d = entries (p .m3) }
+complex p (suc zero) = layer (countOf (p .counts) 1) (p .m1)
+complex p (suc (suc zero)) = layer (countOf (p .counts) 2) (p .m2)
+complex p (suc (suc (suc zero))) = layer (countOf (p .counts) 3) (p .m3)
 complex p (suc (suc (suc (suc k)))) = bare 0
 
 abbrev pub countsOf : Complex → Counts

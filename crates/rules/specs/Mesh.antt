@@ -61,9 +61,17 @@ tailOf v = faceWith (negsuc 0) v
 abbrev pub headOf : Chain → ℕ
 headOf v = faceWith (pos 1) v
 
+-- the text of face i, whose entry is z: nothing where that is 0
+unfoldable pub oneFace : (ℕ → ℤ → List ℕ) → ℕ → ℤ → List ℕ
+oneFace f i z = cond (isZero z) [] (f i z)
+
 -- a text for each face of a column, rising
 unfoldable pub eachFace : (ℕ → ℤ → List ℕ) → Chain → List ℕ
-eachFace f v = join 96 (λ i. cond (isZero (v i)) [] (f i (v i)))
+eachFace f v = join 96 (λ i. oneFace f i (v i))
+
+-- how many faces it has
+abbrev pub faceCount : Chain → ℕ
+faceCount v = count 96 (λ i. not (isZero (v i)))
 
 -- "pairs (number, sign), sign 1 for plus and 2 for minus"
 abbrev pub pair : ℕ → ℤ → List ℕ
@@ -71,7 +79,7 @@ pair i z = i ∷ cond (eqZ z (pos 1)) 1 2 ∷ []
 
 -- a cell of dimension k: tail and head of a seam; face count and pairs
 unfoldable pub writeCell : ℕ → Chain → List ℕ
-writeCell k v = cond (eqb k 1) (tailOf v ∷ headOf v ∷ []) (count 96 (λ i. not (isZero (v i))) ∷ eachFace pair v)
+writeCell k v = cond (eqb k 1) (tailOf v ∷ headOf v ∷ []) (faceCount v ∷ eachFace pair v)
 
 unfoldable pub writeSection : ℕ → Complex → List ℕ
 writeSection k X = X k .n ∷ join (X k .n) (λ j. writeCell k (λ i. X k .d i j))

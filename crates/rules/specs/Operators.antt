@@ -106,12 +106,19 @@ splitStep k s F X =
     (unless (isPart p v) wrongPart
     (unless (divides m (boundary (X m) (part p v))) wrongDivider (edited (split m s p X)))))
 
+-- the last two places where v is not 0
+abbrev pub higher : Chain → ℕ
+higher v = last 96 (λ j. not (isZero (v j)))
+
+abbrev pub lower : Chain → ℕ
+lower v = last (higher v) (λ j. not (isZero (v j)))
+
 -- Merge: "exactly two non-zero entries in its row of matrix k+1, of opposite sign (else 11)"; "A sum that leaves -1 to 1, or is all 0, is refused (12)."
 unfoldable pub mergeStep : ℕ → ℕ → Complex → Outcome
 mergeStep k t X =
     let D = X (suc k) .d in
-    let b = last 96 (λ j. not (isZero (D t j))) in
-    let a = last b (λ j. not (isZero (D t j))) in
+    let a = lower (D t) in
+    let b = higher (D t) in
     unless (ltb t (X k .n)) noSuchCell
     (unless (oneEach (λ j. D t j)) notBetween
     (unless (proper (λ i. D i a +ℤ D i b)) wrongSum (removed (merge k t a b X))))

@@ -3,7 +3,8 @@ use mathlib.Core.Path.{_≡_, sym, _∙_}
 use borrow.Author.Needs.{needs}
 use lib.ListN.{length}
 use Rattle.rules.specs.Refusals.{accepted}
-use Rattle.rules.specs.Complex.{Pattern, pattern}
+use Rattle.rules.specs.Complex.{Pattern}
+use Rattle.rules.specs.Lending.{asLent}
 use Rattle.good.specs.Tested.{tested}
 use Rattle.engine.proofs.FirstTests.{held}
 use Rattle.engine.proofs.Answers.{lone-read, apply-refused, apply-faulty, apply-done}
@@ -12,7 +13,7 @@ use Rattle.engine.proofs.apply_operator.Tie as tie
 
 -- the pattern that was lent
 abbrev entry : tie.Start → Pattern
-entry start = let a = start .args in pattern (a .c) (a .m1 .now) (a .m2 .now) (a .m3 .now)
+entry start = let a = start .args in asLent (a .c) (a .m1) (a .m2) (a .m3)
 
 -- it passed its test
 passed : (c : tie.Else1) → tested (entry (c .before .before .before .before .before .before)) ≡ accepted

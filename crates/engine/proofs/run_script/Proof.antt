@@ -5,7 +5,8 @@ use borrow.Author.Needs.{needs}
 use borrow.Author.Tests.{not-true, not-false}
 use lib.ListN.{length}
 use Rattle.rules.specs.Refusals.{accepted}
-use Rattle.rules.specs.Complex.{Pattern, pattern}
+use Rattle.rules.specs.Complex.{Pattern}
+use Rattle.rules.specs.Lending.{asLent}
 use Rattle.good.specs.Tested.{tested}
 use Rattle.engine.proofs.FirstTests.{held}
 use Rattle.engine.proofs.ScriptAnswers.{script-says, too-long, run-refused, run-faulty, run-stale, run-done}
@@ -14,7 +15,7 @@ use Rattle.engine.proofs.run_script.Tie as tie
 
 -- the pattern that was lent
 abbrev entry : tie.Start → Pattern
-entry start = let a = start .args in pattern (a .c) (a .m1 .now) (a .m2 .now) (a .m3 .now)
+entry start = let a = start .args in asLent (a .c) (a .m1) (a .m2) (a .m3)
 
 four : (start : tie.Start) → length (start .args .c .n) ≡ 4
 four start = search needs

@@ -7,9 +7,10 @@ use borrow.Author.Needs.{needs}
 use borrow.Author.Tests.{not-true, not-false}
 use lib.ListN.{length}
 use Rattle.rules.specs.Refusals.{accepted}
-use Rattle.rules.specs.Complex.{Pattern, pattern}
+use Rattle.rules.specs.Complex.{Pattern}
 use Rattle.rules.specs.Form.{within}
 use Rattle.rules.specs.Calls.{sizedChain}
+use Rattle.rules.specs.Lending.{asLent}
 use Rattle.good.specs.Tested.{tested}
 use Rattle.engine.proofs.FirstTests.{chain-long}
 use Rattle.engine.proofs.Dimensions.{at-most-three}
@@ -18,8 +19,8 @@ use Rattle.engine.proofs.boundary.boundary.Statement.{statement}
 use Rattle.engine.proofs.boundary.boundary.Tie as tie
 
 -- the pattern that was lent
-abbrev lent : tie.Start → Pattern
-lent s = pattern (s .args .c) (s .args .m1 .now) (s .args .m2 .now) (s .args .m3 .now)
+abbrev entry : tie.Start → Pattern
+entry s = let a = s .args in asLent (a .c) (a .m1) (a .m2) (a .m3)
 
 four : (s : tie.Start) → length (s .args .c .n) ≡ 4
 four s = search needs
@@ -29,7 +30,7 @@ sized : (c : tie.Else1) → sizedChain (c .before .args .chain .now) && sizedCha
 sized c = not-false _ (c .if1 .left)
 
 -- the pattern passed its test
-passed : (c : tie.Else2) → tested (lent (c .before .before .before)) ≡ accepted
+passed : (c : tie.Else2) → tested (entry (c .before .before .before)) ≡ accepted
 passed c = sym (c .before .refusal-of-pattern .ensures) ∙ c .if2 .left
 
 -- the dimension is 1, 2 or 3
@@ -48,7 +49,7 @@ returns-2 c = boundary-refused _ _ _ _ (sized (c .before .before)) (c .before .r
 returns-3 : tie.Need-returns-3
 returns-3 c =
     let s = c .before .before .before .before in
-    boundary-form (lent s) (s .args .d) _ _ (sized (c .before .before .before)) (passed (c .before)) (not-true _ (c .if3 .taken))
+    boundary-form (entry s) (s .args .d) _ _ (sized (c .before .before .before)) (passed (c .before)) (not-true _ (c .if3 .taken))
 
 array-read-is-chain : tie.Need-array-read-is-chain
 array-read-is-chain c = omega (arith, most (c .before))
@@ -57,14 +58,14 @@ is-chain-requires : tie.Need-is-chain-requires
 is-chain-requires c κs =
     let long = c .before .before .before .before in
     let s = long .before in
-    chain-long (lent s) (s .args .chain .now) (s .args .out .now) (sized long)
+    chain-long (entry s) (s .args .chain .now) (s .args .out .now) (sized long)
 
 returns-4 : tie.Need-returns-4
 returns-4 c =
     let test = c .before .before .before in
     let long = test .before .before .before in
     let s = long .before in
-    boundary-chain (lent s) (s .args .d) (s .args .chain .now) (s .args .out .now) (sized long) (passed (test .before)) (ranged test)
+    boundary-chain (entry s) (s .args .d) (s .args .chain .now) (s .args .out .now) (sized long) (passed (test .before)) (ranged test)
     (sym (c .before .is-chain .ensures) ∙ not-true _ (c .if4 .taken))
 
 multiply-at-requires : tie.Need-multiply-at-requires
@@ -72,7 +73,7 @@ multiply-at-requires c κs =
     let test = c .before .before .before .before in
     let long = test .before .before .before in
     let s = long .before in
-    factors (lent s) (s .args .d) (s .args .chain .now) (s .args .out .now) (sized long) (passed (test .before)) (ranged test)
+    factors (entry s) (s .args .d) (s .args .chain .now) (s .args .out .now) (sized long) (passed (test .before)) (ranged test)
     (sym (c .before .before .is-chain .ensures) ∙ not-false _ (c .before .if4 .left)) (four s)
 
 returns-5 : tie.Need-returns-5
@@ -81,7 +82,7 @@ returns-5 c =
     let test = chain .before .before .before in
     let long = test .before .before .before in
     let s = long .before in
-    boundary-done (lent s) (s .args .d) (s .args .chain .now) (s .args .out .now) (sized long) (passed (test .before)) (ranged test)
+    boundary-done (entry s) (s .args .d) (s .args .chain .now) (s .args .out .now) (sized long) (passed (test .before)) (ranged test)
     (sym (chain .before .is-chain .ensures) ∙ not-false _ (chain .if4 .left)) (c .before .multiply-at .ensures)
 
 pub boundary-spec : {M : Type 1} → statement M

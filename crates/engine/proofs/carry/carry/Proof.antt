@@ -5,8 +5,9 @@ use borrow.Author.Needs.{needs}
 use borrow.Author.Tests.{not-true, not-false}
 use lib.ListN.{length}
 use Rattle.rules.specs.Refusals.{accepted}
-use Rattle.rules.specs.Complex.{Pattern, pattern}
+use Rattle.rules.specs.Complex.{Pattern}
 use Rattle.rules.specs.Calls.{sizedChain}
+use Rattle.rules.specs.Lending.{asLent}
 use Rattle.good.specs.Tested.{tested}
 use Rattle.engine.proofs.FirstTests.{held, chain-long, out-long}
 use Rattle.engine.proofs.Answers.{lone-read}
@@ -15,8 +16,8 @@ use Rattle.engine.proofs.carry.carry.Statement.{statement}
 use Rattle.engine.proofs.carry.carry.Tie as tie
 
 -- the pattern that was lent
-abbrev lent : tie.Start → Pattern
-lent s = pattern (s .args .c) (s .args .m1 .now) (s .args .m2 .now) (s .args .m3 .now)
+abbrev entry : tie.Start → Pattern
+entry s = let a = s .args in asLent (a .c) (a .m1) (a .m2) (a .m3)
 
 four : (s : tie.Start) → length (s .args .c .n) ≡ 4
 four s = search needs
@@ -26,7 +27,7 @@ sized : (c : tie.Else1) → let a = c .before .before .args in sizedChain (a .ch
 sized c = not-false _ (c .if1 .left)
 
 -- the pattern passed its test
-passed : (c : tie.Else2) → tested (lent (c .before .before .before .before)) ≡ accepted
+passed : (c : tie.Else2) → tested (entry (c .before .before .before .before)) ≡ accepted
 passed c = sym (c .before .refusal-of-pattern .ensures) ∙ c .if2 .left
 
 too-short : tie.Need-returns
@@ -39,7 +40,7 @@ not-offered : tie.Need-returns-3
 not-offered c =
     let test = c .before in
     let s = test .before .before .before .before in
-    carry-form (lent s) _ (s .args .d) _ _ (sized (test .before .before)) (passed test) (c .if3 .taken)
+    carry-form (entry s) _ (s .args .d) _ _ (sized (test .before .before)) (passed test) (c .if3 .taken)
 
 carry-through-requires : tie.Need-carry-through-requires
 carry-through-requires c κs =
@@ -49,11 +50,11 @@ carry-through-requires c κs =
     let long = test .before .before .before in
     let s = long .before .before in
     record {
-      held = held (lent s) (four s) (passed (test .before));
+      held = held (entry s) (four s) (passed (test .before));
       source = lone-read (sym (form .form-of-operator .ensures) ∙ arm .o .given .1);
       dim = test .if3 .left;
-      long = chain-long (lent s) (s .args .chain .now) (s .args .out .now) (sized long);
-      room = out-long (lent s) (s .args .chain .now) (s .args .out .now) (sized long);
+      long = chain-long (entry s) (s .args .chain .now) (s .args .out .now) (sized long);
+      room = out-long (entry s) (s .args .chain .now) (s .args .out .now) (sized long);
     }
 
 not-in-form : tie.Need-returns-4
@@ -63,7 +64,7 @@ not-in-form c =
     let test = form .before in
     let long = test .before .before .before in
     let s = long .before .before in
-    carry-faulty (lent s) _ (s .args .d) _ _ (sized long) (passed (test .before)) (test .if3 .left)
+    carry-faulty (entry s) _ (s .args .d) _ _ (sized long) (passed (test .before)) (test .if3 .left)
     (sym (form .form-of-operator .ensures) ∙ arm .f .given .1) (c .refusal-of .ensures)
 
 done : tie.Need-returns-5
@@ -73,7 +74,7 @@ done c =
     let test = form .before in
     let long = test .before .before .before in
     let s = long .before .before in
-    carry-done (lent s) _ (s .args .d) _ _ (sized long) (passed (test .before)) (test .if3 .left)
+    carry-done (entry s) _ (s .args .d) _ _ (sized long) (passed (test .before)) (test .if3 .left)
     (sym (form .form-of-operator .ensures) ∙ arm .o .given .1) (c .before .carry-through .ensures)
 
 pub carry-spec : {M : Type 1} → statement M

@@ -1,14 +1,15 @@
 -- `engine::script::run_one` meets its contract: the bytes are not in form, or the operator is applied.
 use mathlib.Core.Path.{sym, _∙_}
 use borrow.Author.Needs.{needs}
-use Rattle.rules.specs.Complex.{Pattern, pattern}
+use Rattle.rules.specs.Complex.{Pattern}
+use Rattle.rules.specs.Lending.{asLent}
 use Rattle.engine.proofs.Runs.{turn-faulty, source, turn-done}
 use Rattle.engine.proofs.script.run_one.Statement.{statement}
 use Rattle.engine.proofs.script.run_one.Tie as tie
 
 -- the pattern at entry
 abbrev entry : tie.Start → Pattern
-entry start = let a = start .args in pattern (a .c) (a .m1 .now) (a .m2 .now) (a .m3 .now)
+entry start = let a = start .args in asLent (a .c) (a .m1) (a .m2) (a .m3)
 
 apply-requires : tie.Need-apply-requires
 apply-requires c κs =

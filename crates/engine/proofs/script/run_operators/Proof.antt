@@ -1,8 +1,8 @@
 -- `engine::script::run_operators` turns as `repeat` does: what is left to run, from the pattern and place that it holds, is always the whole.
 use mathlib.Core.Path.{sym, _∙_}
 use native.Mathlib.Omega.{arith}
-use Rattle.rules.specs.Complex.{Pattern, pattern}
-use Rattle.rules.proofs.Stored.{Sized}
+use Rattle.rules.specs.Complex.{Pattern, pattern, Sized}
+use Rattle.rules.specs.Lending.{asLent}
 use Rattle.engine.proofs.Runs.{Under, run-starts, run-more, run-stops, run-ends}
 use Rattle.engine.proofs.script.run_operators.Statement.{statement}
 use Rattle.engine.proofs.script.run_operators.Tie as tie
@@ -16,7 +16,7 @@ abbrev μ-loop : tie.MeasureT-loop
 
 -- the pattern at entry
 abbrev entry : (c : tie.Start Inv-loop μ-loop) → Pattern
-entry c = let a = c .args in pattern (a .c) (a .m1 .now) (a .m2 .now) (a .m3 .now)
+entry c = let a = c .args in asLent (a .c) (a .m1) (a .m2) (a .m3)
 
 loop-holds : tie.Need-loop-holds Inv-loop μ-loop
 loop-holds c = let start = c .before in run-starts (start .args .s .now) (start .args .n) (entry start) (start .pre)

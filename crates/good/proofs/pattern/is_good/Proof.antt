@@ -2,15 +2,16 @@
 use mathlib.Core.Path.{sym, _∙_}
 use borrow.Author.Needs.{needs}
 use Rattle.rules.specs.Complex.{Pattern}
+use Rattle.rules.specs.Lending.{asLent}
 use Rattle.good.proofs.Parts.{Counted, good-few, good-cells, stored}
 use Rattle.good.proofs.pattern.is_good.Statement.{statement}
 use Rattle.good.proofs.pattern.is_good.Tie as tie
 
 -- the pattern that is tested
-abbrev pattern : tie.Start → Pattern
-pattern s = record { counts = s .args .c; m1 = s .args .m1 .now; m2 = s .args .m2 .now; m3 = s .args .m3 .now }
+abbrev entry : tie.Start → Pattern
+entry s = let a = s .args in asLent (a .c) (a .m1) (a .m2) (a .m3)
 
-counted : (c : tie.After-count4) → Counted (pattern (c .before .before .before .before .before .before))
+counted : (c : tie.After-count4) → Counted (entry (c .before .before .before .before .before .before))
     (c .before .before .before .count .result) (c .before .before .count2 .result) (c .before .count3 .result) (c .count4 .result)
 counted c =
     let a = c .before .before .before in
@@ -31,7 +32,7 @@ returns c = rw (good-cells (counted (c .before))) (c .is-sound .ensures)
 returns-2 : tie.Need-returns-2
 returns-2 c =
     let f = c .before in
-    c .if1 .left ∙ sym (good-few (pattern (f .before)) (sym (f .few .ensures) ∙ c .if1 .left))
+    c .if1 .left ∙ sym (good-few (entry (f .before)) (sym (f .few .ensures) ∙ c .if1 .left))
 
 pub is-good-spec : {M : Type 1} → statement M
 is-good-spec =

@@ -5,8 +5,8 @@ use native.Mathlib.Omega.{arith}
 use borrow.Author.Tests.{not-true, not-false}
 use Rattle.maths.specs.Tables.{entries}
 use Rattle.rules.specs.Good.{closes}
+use Rattle.rules.specs.Complex.{layer}
 use Rattle.grid.proofs.Joined.{Passed, passed-none, passed-more, passed-not, passed-all}
-use Rattle.rules.proofs.Stored.{layer}
 use Rattle.good.proofs.Places.{column-summands, column-closes}
 use Rattle.good.proofs.products.product_zero.Statement.{statement}
 use Rattle.good.proofs.products.product_zero.Tie as tie

@@ -5,7 +5,8 @@ use Rattle.maths.specs.Tables.{entries}
 use Rattle.maths.proofs.Sizes.{entry-read}
 use Rattle.maths.proofs.Buffers.{Pieces, pieces-none, pieces-more, pieces-all}
 use Rattle.rules.specs.Printed.{signedFace}
-use Rattle.rules.proofs.FaceTexts.{oneFace, faces-are}
+use Rattle.rules.specs.Mesh.{oneFace}
+use Rattle.rules.proofs.texts.FaceTexts.{faces-are}
 use Rattle.listing.proofs.Faces.{faces-most}
 use Rattle.listing.proofs.lines.put_faces.Statement.{statement}
 use Rattle.listing.proofs.lines.put_faces.Tie as tie

@@ -2,14 +2,14 @@
 use mathlib.Core.Path.{sym, _∙_}
 use borrow.Author.Needs.{needs}
 use Rattle.rules.specs.Complex.{Pattern}
-use Rattle.rules.specs.Complex.{pattern}
+use Rattle.rules.specs.Lending.{asLent}
 use Rattle.mesh.proofs.Parts.{faulted, cell-faulty, cell-form, cell-went}
 use Rattle.mesh.proofs.cells.read_cell.Statement.{statement}
 use Rattle.mesh.proofs.cells.read_cell.Tie as tie
 
 -- the pattern at entry
 abbrev entry : (c : tie.Start) → Pattern
-entry c = let a = c .args in pattern (a .c) (a .m1 .now) (a .m2 .now) (a .m3 .now)
+entry c = let a = c .args in asLent (a .c) (a .m1) (a .m2) (a .m3)
 
 make-requires : tie.Need-make-requires
 make-requires c κs =

@@ -1,10 +1,9 @@
 -- `mesh::cells::read_cells` turns as `repeat` does: what is left to read, from the pattern and place that it holds, is always the whole.
 use mathlib.Core.Path.{refl, sym, _∙_}
 use native.Mathlib.Omega.{arith}
-use Rattle.rules.specs.Complex.{Pattern, complex}
+use Rattle.rules.specs.Complex.{Pattern, complex, pattern, Sized}
 use Rattle.rules.specs.Mesh.{Place}
-use Rattle.rules.proofs.Stored.{Sized}
-use Rattle.rules.specs.Complex.{pattern}
+use Rattle.rules.specs.Lending.{asLent}
 use Rattle.mesh.proofs.Parts.{Under, cells-more, cells-stop, cells-end}
 use Rattle.mesh.proofs.cells.read_cells.Statement.{statement}
 use Rattle.mesh.proofs.cells.read_cells.Tie as tie
@@ -18,7 +17,7 @@ abbrev μ-loop : tie.MeasureT-loop
 
 -- the pattern at entry, and where the reading starts
 abbrev entry : (c : tie.Start Inv-loop μ-loop) → Pattern
-entry c = let a = c .args in pattern (a .c) (a .m1 .now) (a .m2 .now) (a .m3 .now)
+entry c = let a = c .args in asLent (a .c) (a .m1) (a .m2) (a .m3)
 
 abbrev first : (c : tie.Start Inv-loop μ-loop) → Place
 first c = (complex (entry c), c .args .at)

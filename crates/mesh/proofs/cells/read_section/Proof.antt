@@ -4,15 +4,15 @@ use native.Mathlib.Omega.{arith}
 use borrow.Author.Needs.{needs}
 use Rattle.rules.specs.Complex.{complex}
 use Rattle.rules.specs.Mesh.{Place}
-use Rattle.rules.proofs.Fields.{byte-says}
-use Rattle.rules.specs.Complex.{pattern}
+use Rattle.rules.specs.Lending.{asLent}
+use Rattle.rules.proofs.bytes.Fields.{byte-says}
 use Rattle.mesh.proofs.Parts.{faulted, went-as, section-faulty, section-is}
 use Rattle.mesh.proofs.cells.read_section.Statement.{statement}
 use Rattle.mesh.proofs.cells.read_section.Tie as tie
 
 -- where the section starts
 abbrev first : (c : tie.Start) → Place
-first c = let a = c .args in (complex (pattern (a .c) (a .m1 .now) (a .m2 .now) (a .m3 .now)), a .at)
+first c = let a = c .args in (complex (asLent (a .c) (a .m1) (a .m2) (a .m3)), a .at)
 
 next-fits : tie.Need-add-read-cells
 next-fits c =

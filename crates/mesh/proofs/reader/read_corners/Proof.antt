@@ -2,7 +2,7 @@
 use mathlib.Core.Path.{sym, _∙_}
 use native.Mathlib.Omega.{arith}
 use borrow.Author.Needs.{needs}
-use Rattle.rules.proofs.Fields.{byte-says}
+use Rattle.rules.proofs.bytes.Fields.{byte-says}
 use Rattle.mesh.proofs.Wholes.{corners-read, corners-refused}
 use Rattle.mesh.proofs.reader.read_corners.Statement.{statement}
 use Rattle.mesh.proofs.reader.read_corners.Tie as tie

@@ -5,14 +5,14 @@ use borrow.Author.Needs.{needs}
 use borrow.Author.Tests.{not-true, not-false}
 use Rattle.rules.specs.Complex.{Pattern, countsOf, empty}
 use Rattle.rules.specs.Calls.{sized}
-use Rattle.rules.specs.Complex.{pattern}
+use Rattle.rules.specs.Lending.{asLent}
 use Rattle.mesh.proofs.Wholes.{sized-long, wrong-length, mesh-taken, mesh-refused}
 use Rattle.mesh.proofs.reader.read_mesh.Statement.{statement}
 use Rattle.mesh.proofs.reader.read_mesh.Tie as tie
 
 -- the matrices at entry
 abbrev entry : (c : tie.Start) → Pattern
-entry c = let a = c .args in pattern (countsOf empty) (a .m1 .now) (a .m2 .now) (a .m3 .now)
+entry c = let a = c .args in asLent (countsOf empty) (a .m1) (a .m2) (a .m3)
 
 short : tie.Need-returns
 short c =

@@ -3,7 +3,7 @@ use Prim.Native.Nat.{_+_, _<_}
 use native.Mathlib.Omega.{arith}
 use lib.ListN.{getD}
 use borrow.Author.Needs.{needs}
-use Rattle.rules.specs.Complex.{pattern}
+use Rattle.rules.specs.Lending.{asLent}
 use Rattle.mesh.proofs.Sections.{mesh-size, section-most}
 use Rattle.mesh.proofs.writer.mesh_length.Statement.{statement}
 use Rattle.mesh.proofs.writer.mesh_length.Tie as tie
@@ -23,7 +23,7 @@ small c =
 returns : tie.Need-returns
 returns c =
     let start = c .before .before .before .before in
-    omega (arith, mesh-size (pattern (start .args .c) (start .args .m1 .now) (start .args .m2 .now) (start .args .m3 .now)))
+    omega (arith, mesh-size (let a = start .args in asLent (a .c) (a .m1) (a .m2) (a .m3)))
 
 pub mesh-length-spec : {M : Type 1} → statement M
 mesh-length-spec =

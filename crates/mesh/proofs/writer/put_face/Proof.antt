@@ -6,8 +6,8 @@ use lib.ListN.{length}
 use mir.Facts.{toZ-ofZ}
 use borrow.Author.Needs.{needs}
 use Rattle.maths.proofs.Buffers.{no-piece}
-use Rattle.rules.specs.Mesh.{pair}
-use Rattle.rules.proofs.FaceTexts.{oneFace, no-face, some-face}
+use Rattle.rules.specs.Mesh.{pair, oneFace}
+use Rattle.rules.proofs.texts.FaceTexts.{no-face, some-face}
 use Rattle.mesh.proofs.writer.put_face.Statement.{statement}
 use Rattle.mesh.proofs.writer.put_face.Tie as tie
 

@@ -4,8 +4,8 @@ use native.Mathlib.Omega.{arith}
 use Rattle.maths.specs.Tables.{column, entries}
 use Rattle.maths.proofs.Sizes.{entry-read}
 use Rattle.maths.proofs.Buffers.{Pieces, pieces-none, pieces-fit, pieces-more, pieces-all}
-use Rattle.rules.specs.Mesh.{pair}
-use Rattle.rules.proofs.FaceTexts.{oneFace, faces-are}
+use Rattle.rules.specs.Mesh.{pair, oneFace}
+use Rattle.rules.proofs.texts.FaceTexts.{faces-are}
 use Rattle.mesh.proofs.writer.put_faces.Statement.{statement}
 use Rattle.mesh.proofs.writer.put_faces.Tie as tie
 

@@ -5,17 +5,17 @@ use borrow.Author.Needs.{needs}
 use Rattle.rules.specs.Refusals.{accepted}
 use Rattle.rules.specs.Complex.{Pattern}
 use Rattle.good.specs.Tested.{tested}
-use Rattle.rules.specs.Complex.{pattern}
+use Rattle.rules.specs.Lending.{asLent}
 use Rattle.mesh.proofs.Answers.{writable, refused-pattern, refused-buffer, written}
 use Rattle.mesh.proofs.writer.write_mesh.Statement.{statement}
 use Rattle.mesh.proofs.writer.write_mesh.Tie as tie
 
 -- the pattern that was lent
-abbrev lent : tie.Start → Pattern
-lent start = pattern (start .args .c) (start .args .m1 .now) (start .args .m2 .now) (start .args .m3 .now)
+abbrev entry : tie.Start → Pattern
+entry start = let a = start .args in asLent (a .c) (a .m1) (a .m2) (a .m3)
 
 -- it passed its test
-passed : (c : tie.Else1) → tested (lent (c .before .before .before)) ≡ accepted
+passed : (c : tie.Else1) → tested (entry (c .before .before .before)) ≡ accepted
 passed c = sym (c .before .refusal-of-pattern .ensures) ∙ c .if1 .left
 
 pub write-mesh-spec : {M : Type 1} → statement M

@@ -3,14 +3,14 @@ use mathlib.Core.Path.{_≡_}
 use native.Mathlib.Omega.{arith}
 use borrow.Author.Needs.{needs}
 use Rattle.rules.specs.Complex.{Pattern}
-use Rattle.rules.specs.Complex.{pattern}
-use Rattle.operators.proofs.Made.{seam-fits, panel-fits, block-fits, append-0, append-1, append-2, append-3}
+use Rattle.rules.specs.Lending.{asLent}
+use Rattle.operators.proofs.make.Made.{seam-fits, panel-fits, block-fits, append-0, append-1, append-2, append-3}
 use Rattle.operators.proofs.append.append.Statement.{statement}
 use Rattle.operators.proofs.append.append.Tie as tie
 
 -- the pattern at entry
 abbrev entry : (c : tie.Start) → Pattern
-entry c = let a = c .args in pattern (a .t1) (a .m1 .now) (a .m2 .now) (a .m3 .now)
+entry c = let a = c .args in asLent (a .t1) (a .m1) (a .m2) (a .m3)
 
 -- the last dimension
 last : (c : tie.At-match-rest) → c .before .before .before .before .args .k ≡ 3

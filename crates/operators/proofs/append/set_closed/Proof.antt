@@ -5,9 +5,9 @@ use borrow.Author.Needs.{needs}
 use borrow.Author.Tests.{not-true, not-false}
 use Rattle.rules.specs.Good.{allZero, closes}
 use Rattle.rules.specs.Calls.{coefficients}
-use Rattle.rules.proofs.Stored.{layer}
-use Rattle.operators.proofs.Lists.{from-start}
-use Rattle.operators.proofs.Closing.{set-open, set-shut}
+use Rattle.rules.specs.Complex.{layer}
+use Rattle.operators.proofs.chosen.Lists.{from-start}
+use Rattle.operators.proofs.make.Closing.{set-open, set-shut}
 use Rattle.operators.proofs.append.set_closed.Statement.{statement}
 use Rattle.operators.proofs.append.set_closed.Tie as tie
 

@@ -2,8 +2,8 @@
 use mathlib.Core.Path.{sym, _∙_}
 use borrow.Author.Needs.{needs}
 use Rattle.rules.specs.Good.{allZero}
-use Rattle.operators.proofs.Lists.{from-start}
-use Rattle.operators.proofs.Closing.{set-no, set-yes}
+use Rattle.operators.proofs.chosen.Lists.{from-start}
+use Rattle.operators.proofs.make.Closing.{set-no, set-yes}
 use Rattle.operators.proofs.append.set_some.Statement.{statement}
 use Rattle.operators.proofs.append.set_some.Tie as tie
 

@@ -6,7 +6,7 @@ use borrow.Author.Tests.{lt-ltb, le-ltb}
 use lib.Dec.{ltb}
 use lib.ListN.{getD}
 use Rattle.grid.proofs.Joined.{Passed, passed-none, passed-more, passed-not, passed-all}
-use Rattle.operators.proofs.Listing.{none-listed, all-listed}
+use Rattle.operators.proofs.chosen.Listing.{none-listed, all-listed}
 use Rattle.operators.proofs.chosen.faces_below.Statement.{statement}
 use Rattle.operators.proofs.chosen.faces_below.Tie as tie
 

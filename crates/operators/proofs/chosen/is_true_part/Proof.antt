@@ -2,7 +2,7 @@
 use borrow.Author.Needs.{needs}
 use Rattle.maths.specs.Tables.{column}
 use denote.Ref.{now}
-use Rattle.operators.proofs.Choices.{true-then, true-else}
+use Rattle.operators.proofs.chosen.Choices.{true-then, true-else}
 use Rattle.operators.proofs.chosen.is_true_part.Statement.{statement}
 use Rattle.operators.proofs.chosen.is_true_part.Tie as tie
 

@@ -8,7 +8,7 @@ use Rattle.maths.specs.Tables.{column}
 use Rattle.maths.proofs.Sizes.{back}
 use Rattle.rules.specs.Calls.{coefficients}
 use Rattle.grid.proofs.Joined.{Joined, joined-none, joined-more, joined-all}
-use Rattle.operators.proofs.Parts.{column-entry}
+use Rattle.operators.proofs.chosen.Parts.{column-entry}
 use Rattle.operators.proofs.chosen.is_whole.Statement.{statement}
 use Rattle.operators.proofs.chosen.is_whole.Tie as tie
 

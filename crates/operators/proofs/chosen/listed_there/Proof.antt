@@ -10,7 +10,7 @@ use Rattle.maths.specs.Tables.{column}
 use Rattle.maths.proofs.Sizes.{back}
 use Rattle.grid.proofs.Joined.{Passed, passed-none, passed-more, passed-not, passed-all}
 use Rattle.operators.specs.Part.{numbers, allThere}
-use Rattle.operators.proofs.Parts.{column-entry}
+use Rattle.operators.proofs.chosen.Parts.{column-entry}
 use Rattle.operators.proofs.chosen.listed_there.Statement.{statement}
 use Rattle.operators.proofs.chosen.listed_there.Tie as tie
 

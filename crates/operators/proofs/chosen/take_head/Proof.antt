@@ -12,7 +12,7 @@ use Rattle.maths.proofs.Tables.{is-table}
 use Rattle.maths.proofs.Sweep.{Filled, filled-none, filled-more}
 use Rattle.rules.specs.Edits.{part}
 use Rattle.operators.specs.Part.{head}
-use Rattle.operators.proofs.Parts.{column-entry}
+use Rattle.operators.proofs.chosen.Parts.{column-entry}
 use Rattle.operators.proofs.chosen.take_head.Statement.{statement}
 use Rattle.operators.proofs.chosen.take_head.Tie as tie
 

@@ -6,7 +6,7 @@ use Rattle.maths.specs.Tables.{column}
 use mir.Syntax.{w8}
 use Rattle.maths.proofs.Sizes.{back}
 use Rattle.operators.specs.Part.{numbers}
-use Rattle.operators.proofs.Parts.{column-entry, Marked, mark-begin, mark-more, mark-end}
+use Rattle.operators.proofs.chosen.Parts.{column-entry, Marked, mark-begin, mark-more, mark-end}
 use Rattle.operators.proofs.chosen.take_listed.Statement.{statement}
 use Rattle.operators.proofs.chosen.take_listed.Tie as tie
 

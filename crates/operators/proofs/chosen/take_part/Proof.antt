@@ -2,7 +2,7 @@
 use mathlib.Core.Path.{sym, _∙_}
 use native.Mathlib.Omega.{arith}
 use borrow.Author.Needs.{needs}
-use Rattle.operators.proofs.Choices.{head-taken, listed-taken, listed-missing}
+use Rattle.operators.proofs.chosen.Choices.{head-taken, listed-taken, listed-missing}
 use Rattle.operators.proofs.chosen.take_part.Statement.{statement}
 use Rattle.operators.proofs.chosen.take_part.Tie as tie
 

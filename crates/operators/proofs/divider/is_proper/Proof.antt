@@ -1,7 +1,7 @@
 -- `operators::divider::is_proper` meets its contract: the tests of its callees are those of the definition.
 use borrow.Author.Needs.{needs}
 use denote.Ref.{now}
-use Rattle.operators.proofs.Edges.{proper-then, proper-else}
+use Rattle.operators.proofs.split.Edges.{proper-then, proper-else}
 use Rattle.operators.proofs.divider.is_proper.Statement.{statement}
 use Rattle.operators.proofs.divider.is_proper.Tie as tie
 

@@ -1,7 +1,7 @@
 -- `operators::divider::is_seam` meets its contract: a column with one +1 is not all 0.
 use borrow.Author.Needs.{needs}
 use denote.Ref.{now}
-use Rattle.operators.proofs.Edges.{seam-then, seam-else}
+use Rattle.operators.proofs.split.Edges.{seam-then, seam-else}
 use Rattle.operators.proofs.divider.is_seam.Statement.{statement}
 use Rattle.operators.proofs.divider.is_seam.Tie as tie
 

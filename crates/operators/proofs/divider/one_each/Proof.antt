@@ -1,7 +1,7 @@
 -- `operators::divider::one_each` meets its contract: the counts of its callee are those of the definition.
 use borrow.Author.Needs.{needs}
 use denote.Ref.{now}
-use Rattle.operators.proofs.Edges.{ends-then, ends-else}
+use Rattle.operators.proofs.split.Edges.{ends-then, ends-else}
 use Rattle.operators.proofs.divider.one_each.Statement.{statement}
 use Rattle.operators.proofs.divider.one_each.Tie as tie
 

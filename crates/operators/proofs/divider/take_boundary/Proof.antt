@@ -3,8 +3,8 @@ use mathlib.Core.Path.{refl}
 use native.Mathlib.Omega.{arith}
 use borrow.Author.Needs.{needs}
 use Rattle.operators.specs.Boundary.{edgeOf}
-use Rattle.operators.proofs.Lists.{from-start}
-use Rattle.operators.proofs.Edges.{corner-bounded, seam-bounded, panel-bounded}
+use Rattle.operators.proofs.chosen.Lists.{from-start}
+use Rattle.operators.proofs.split.Edges.{corner-bounded, seam-bounded, panel-bounded}
 use Rattle.operators.proofs.divider.take_boundary.Statement.{statement}
 use Rattle.operators.proofs.divider.take_boundary.Tie as tie
 

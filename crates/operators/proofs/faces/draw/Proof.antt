@@ -6,8 +6,8 @@ use mir.Syntax.{w8}
 use mir.Val.{toZ, ofZ}
 use Rattle.rules.specs.Form.{madeOf}
 use Rattle.operators.specs.Column.{FaceForm}
-use Rattle.operators.proofs.Bytes.{sign-unit, faces-few}
-use Rattle.operators.proofs.Columns.{Summed, summed-none, summed-more, summed-small, unit-back, drawn, not-drawn}
+use Rattle.operators.proofs.make.Bytes.{sign-unit, faces-few}
+use Rattle.operators.proofs.make.Columns.{Summed, summed-none, summed-more, summed-small, unit-back, drawn, not-drawn}
 use Rattle.operators.proofs.faces.draw.Statement.{statement}
 use Rattle.operators.proofs.faces.draw.Tie as tie
 

@@ -6,7 +6,7 @@ use borrow.Author.Needs.{needs}
 use lib.ListN.{length, getD}
 use mir.Facts.{toZ-ofZ}
 use Rattle.rules.specs.Form.{signOf}
-use Rattle.operators.proofs.Bytes.{seam-there, pair-there, seam-count, list-count, not-corner, seam-tail, seam-head, list-face}
+use Rattle.operators.proofs.make.Bytes.{seam-there, pair-there, seam-count, list-count, not-corner, seam-tail, seam-head, list-face}
 use Rattle.operators.proofs.faces.face_at.Statement.{statement}
 use Rattle.operators.proofs.faces.face_at.Tie as tie
 

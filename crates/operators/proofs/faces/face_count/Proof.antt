@@ -2,7 +2,7 @@
 use Prim.Native.Nat.{_≤_}
 use mathlib.Core.Path.{sym}
 use native.Mathlib.Omega.{arith}
-use Rattle.operators.proofs.Bytes.{count-there, corner-count, seam-count, list-count}
+use Rattle.operators.proofs.make.Bytes.{count-there, corner-count, seam-count, list-count}
 use Rattle.operators.proofs.faces.face_count.Statement.{statement}
 use Rattle.operators.proofs.faces.face_count.Tie as tie
 

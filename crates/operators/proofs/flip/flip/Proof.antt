@@ -4,8 +4,8 @@ use denote.Ref.{now}
 use borrow.Author.Needs.{needs}
 use Rattle.rules.specs.Complex.{pattern}
 use Rattle.operators.specs.Cells.{Cell}
-use Rattle.operators.proofs.Patterns.{absent, found}
-use Rattle.operators.proofs.FlipLaws.{flip-absent, flip-done}
+use Rattle.operators.proofs.patterns.Patterns.{absent, found}
+use Rattle.operators.proofs.flip.FlipLaws.{flip-absent, flip-done}
 use Rattle.operators.proofs.flip.flip.Statement.{statement}
 use Rattle.operators.proofs.flip.flip.Tie as tie
 

@@ -2,8 +2,8 @@
 use mathlib.Core.Path.{_≡_}
 use native.Mathlib.Omega.{arith}
 use borrow.Author.Needs.{needs}
-use Rattle.operators.proofs.Patterns.{unit1, unit2, unit3}
-use Rattle.operators.proofs.FlipLaws.{flip1, flip2, flip3}
+use Rattle.operators.proofs.patterns.Patterns.{unit1, unit2, unit3}
+use Rattle.operators.proofs.flip.FlipLaws.{flip1, flip2, flip3}
 use Rattle.operators.proofs.flip.flip_at.Statement.{statement}
 use Rattle.operators.proofs.flip.flip_at.Tie as tie
 

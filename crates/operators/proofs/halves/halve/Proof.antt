@@ -1,6 +1,6 @@
 -- `operators::halves::halve` meets its contract: the row of t was zero, so its two entries are all of it.
 use borrow.Author.Needs.{needs}
-use Rattle.operators.proofs.Stores.{halved}
+use Rattle.operators.proofs.split.Stores.{halved}
 use Rattle.operators.proofs.halves.halve.Statement.{statement}
 use Rattle.operators.proofs.halves.halve.Tie as tie
 

@@ -3,7 +3,7 @@ use mathlib.Core.Path.{_≡_, sym}
 use native.Mathlib.Omega.{arith}
 use Rattle.rules.specs.Good.{allZero}
 use Rattle.maths.proofs.Tests.{all-of, zero-is}
-use Rattle.operators.proofs.Patterns.{unit1, unit2, unit3, line}
+use Rattle.operators.proofs.patterns.Patterns.{unit1, unit2, unit3, line}
 use Rattle.operators.proofs.kill.is_free.Statement.{statement}
 use Rattle.operators.proofs.kill.is_free.Tie as tie
 

@@ -6,8 +6,8 @@ use borrow.Author.Needs.{needs}
 use borrow.Author.Tests.{not-true, not-false}
 use Rattle.rules.specs.Complex.{pattern}
 use Rattle.operators.specs.Cells.{Cell}
-use Rattle.operators.proofs.Patterns.{absent, found}
-use Rattle.operators.proofs.KillLaws.{kill-absent, kill-used, kill-done}
+use Rattle.operators.proofs.patterns.Patterns.{absent, found}
+use Rattle.operators.proofs.kill.KillLaws.{kill-absent, kill-used, kill-done}
 use Rattle.operators.proofs.kill.kill.Statement.{statement}
 use Rattle.operators.proofs.kill.kill.Tie as tie
 

@@ -2,8 +2,8 @@
 use mathlib.Core.Path.{_≡_}
 use native.Mathlib.Omega.{arith}
 use borrow.Author.Needs.{needs}
-use Rattle.operators.proofs.Patterns.{unit1, unit2, unit3, line}
-use Rattle.operators.proofs.KillLaws.{kill0, kill1, kill2, kill3}
+use Rattle.operators.proofs.patterns.Patterns.{unit1, unit2, unit3, line}
+use Rattle.operators.proofs.kill.KillLaws.{kill0, kill1, kill2, kill3}
 use Rattle.operators.proofs.kill.kill_at.Statement.{statement}
 use Rattle.operators.proofs.kill.kill_at.Tie as tie
 

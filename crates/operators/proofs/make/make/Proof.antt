@@ -11,16 +11,16 @@ use Rattle.rules.specs.Complex.{Pattern, complex}
 use Rattle.rules.specs.Operators.{Faces, chainOf, allBelow}
 use Rattle.rules.specs.Form.{madeOf}
 use Rattle.rules.specs.Calls.{coefficients}
-use Rattle.rules.proofs.Faces.{given-units}
-use Rattle.rules.specs.Complex.{pattern}
-use Rattle.operators.proofs.Bytes.{formed}
-use Rattle.operators.proofs.Made.{count-is, no-such-face, full, not-closed, made}
+use Rattle.rules.proofs.bytes.Faces.{given-units}
+use Rattle.rules.specs.Lending.{asLent}
+use Rattle.operators.proofs.make.Bytes.{formed}
+use Rattle.operators.proofs.make.Made.{count-is, no-such-face, full, not-closed, made}
 use Rattle.operators.proofs.make.make.Statement.{statement}
 use Rattle.operators.proofs.make.make.Tie as tie
 
 -- the pattern at entry, and the faces
 abbrev entry : (c : tie.Start) → Pattern
-entry c = let a = c .args in pattern (a .t1) (a .m1 .now) (a .m2 .now) (a .m3 .now)
+entry c = let a = c .args in asLent (a .t1) (a .m1) (a .m2) (a .m3)
 
 abbrev faces : (c : tie.Start) → Faces
 faces c = let a = c .args in madeOf (a .s .now) (a .dim) (a .list)

@@ -1,6 +1,6 @@
 -- `operators::merge::is_proper_sum` meets its contract: the sums are tested to be units, and then not to be all 0.
 use borrow.Author.Needs.{needs}
-use Rattle.operators.proofs.Rows.{not-units, units-some}
+use Rattle.operators.proofs.merge.Rows.{not-units, units-some}
 use Rattle.operators.proofs.merge.is_proper_sum.Statement.{statement}
 use Rattle.operators.proofs.merge.is_proper_sum.Tie as tie
 

@@ -2,7 +2,7 @@
 use mathlib.Core.Path.{ap, _∙_}
 use borrow.Author.Needs.{needs}
 use Rattle.grid.specs.Grid.{over, removedColumn, removedRow}
-use Rattle.operators.proofs.Forms.{merged-is}
+use Rattle.operators.proofs.patterns.Forms.{merged-is}
 use Rattle.operators.proofs.merge.join.Statement.{statement}
 use Rattle.operators.proofs.merge.join.Tie as tie
 

@@ -5,8 +5,8 @@ use denote.Ref.{now}
 use borrow.Author.Needs.{needs}
 use Rattle.rules.specs.Complex.{pattern}
 use Rattle.operators.specs.Cells.{Cell}
-use Rattle.operators.proofs.Patterns.{absent, found}
-use Rattle.operators.proofs.MergeLaws.{merge-absent, merge-refused, merge-done, between, some-left}
+use Rattle.operators.proofs.patterns.Patterns.{absent, found}
+use Rattle.operators.proofs.merge.MergeLaws.{merge-absent, merge-refused, merge-done, between, some-left}
 use Rattle.operators.proofs.merge.merge.Statement.{statement}
 use Rattle.operators.proofs.merge.merge.Tie as tie
 

@@ -2,8 +2,8 @@
 use mathlib.Core.Path.{_≡_}
 use native.Mathlib.Omega.{arith}
 use borrow.Author.Needs.{needs}
-use Rattle.operators.proofs.Patterns.{unit1, unit2, line}
-use Rattle.operators.proofs.MergeLaws.{apart1, apart2, apart3, above2, above3, merge0, merge1, merge2}
+use Rattle.operators.proofs.patterns.Patterns.{unit1, unit2, line}
+use Rattle.operators.proofs.merge.MergeLaws.{apart1, apart2, apart3, above2, above3, merge0, merge1, merge2}
 use Rattle.operators.proofs.merge.merge_at.Statement.{statement}
 use Rattle.operators.proofs.merge.merge_at.Tie as tie
 

@@ -1,7 +1,7 @@
 -- `operators::merge::sides_at` meets its contract: matrix 1, 2 or 3 has the row of a corner, a seam or a panel.
 use mathlib.Core.Path.{_≡_}
 use native.Mathlib.Omega.{arith}
-use Rattle.operators.proofs.Patterns.{unit1, unit2, unit3}
+use Rattle.operators.proofs.patterns.Patterns.{unit1, unit2, unit3}
 use Rattle.operators.proofs.merge.sides_at.Statement.{statement}
 use Rattle.operators.proofs.merge.sides_at.Tie as tie
 

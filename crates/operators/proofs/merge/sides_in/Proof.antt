@@ -5,7 +5,7 @@ use borrow.Author.Needs.{needs}
 use borrow.Author.Tests.{not-true, not-false}
 use denote.Ref.{now}
 use Rattle.maths.specs.Tables.{entries}
-use Rattle.operators.proofs.Rows.{not-between, last-low, Places, places-met, wrong-sum, sides-found}
+use Rattle.operators.proofs.merge.Rows.{not-between, last-low, Places, places-met, wrong-sum, sides-found}
 use Rattle.operators.proofs.merge.sides_in.Statement.{statement}
 use Rattle.operators.proofs.merge.sides_in.Tie as tie
 

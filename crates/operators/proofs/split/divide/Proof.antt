@@ -1,7 +1,7 @@
 -- `operators::split::divide` meets its contract: two tests, as in the definition, and then the stores of each matrix.
 use borrow.Author.Needs.{needs}
 use Rattle.grid.proofs.Summing.{blank}
-use Rattle.operators.proofs.Divisions.{takeable, part-under, two-halves, new-column, new-row, wrong-part, wrong-divider, all-stored}
+use Rattle.operators.proofs.split.Divisions.{takeable, part-under, two-halves, new-column, new-row, wrong-part, wrong-divider, all-stored}
 use Rattle.operators.proofs.split.divide.Statement.{statement}
 use Rattle.operators.proofs.split.divide.Tie as tie
 

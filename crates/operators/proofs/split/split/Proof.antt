@@ -3,8 +3,8 @@ use mathlib.Core.Path.{ap, _∙_}
 use native.Mathlib.Omega.{arith}
 use borrow.Author.Needs.{needs}
 use Rattle.rules.specs.Counts.{grownAt}
-use Rattle.operators.proofs.SplitForms.{list-form}
-use Rattle.operators.proofs.SplitAnswers.{no-such-cell, no-room, room-below, room-here, still-room, prepared, answer-refused, answer-accepted}
+use Rattle.operators.proofs.chosen.SplitForms.{list-form}
+use Rattle.operators.proofs.split.SplitAnswers.{no-such-cell, no-room, room-below, room-here, still-room, prepared, answer-refused, answer-accepted}
 use Rattle.operators.proofs.split.split.Statement.{statement}
 use Rattle.operators.proofs.split.split.Tie as tie
 

@@ -1,7 +1,7 @@
 -- `operators::split::split_at` meets its contract: at each dimension the three matrices are those of the definition.
 use native.Mathlib.Omega.{arith}
 use borrow.Author.Needs.{needs}
-use Rattle.operators.proofs.SplitLaws.{seam-needs, panel-needs, block-needs, seam-split, panel-split, block-split}
+use Rattle.operators.proofs.split.SplitLaws.{seam-needs, panel-needs, block-needs, seam-split, panel-split, block-split}
 use Rattle.operators.proofs.split.split_at.Statement.{statement}
 use Rattle.operators.proofs.split.split_at.Tie as tie
 

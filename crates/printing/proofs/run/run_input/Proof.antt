@@ -8,16 +8,17 @@ use mir.Syntax.{w16}
 use borrow.Rule.Slice.PartAt.{part-to-end}
 use borrow.Author.Needs.{needs}
 use Rattle.maths.proofs.Sizes.{back}
-use Rattle.rules.specs.Complex.{Pattern, pattern, countsOf, empty}
+use Rattle.rules.specs.Complex.{Pattern, countsOf, empty}
 use Rattle.rules.specs.Calls.{sized}
-use Rattle.rules.proofs.Stored.{sized-is}
+use Rattle.rules.specs.Lending.{asLent}
+use Rattle.rules.proofs.storage.Stored.{sized-is}
 use Rattle.printing.proofs.Running.{mesh-refused, mesh-taken, script-ran}
 use Rattle.printing.proofs.run.run_input.Statement.{statement}
 use Rattle.printing.proofs.run.run_input.Tie as tie
 
 -- the matrices at entry
 abbrev entry : tie.Start → Pattern
-entry start = let a = start .args in pattern (countsOf empty) (a .m1 .now) (a .m2 .now) (a .m3 .now)
+entry start = let a = start .args in asLent (countsOf empty) (a .m1) (a .m2) (a .m3)
 
 long : (start : tie.Start) → sized (entry start) ≡ true
 long start = sized-is {p = entry start} (record { four = refl; size1 = start .pre .long1; size2 = start .pre .long2; size3 = start .pre .long3 })

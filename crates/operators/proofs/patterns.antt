@@ -1,0 +1,5 @@
+pub mod Patterns
+pub mod Counted
+pub mod Forms
+pub mod Kept
+pub mod Answered

@@ -1,0 +1,4 @@
+pub mod Sides
+pub mod Passed
+pub mod Allowed
+pub mod Accepted

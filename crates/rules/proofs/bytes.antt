@@ -1,0 +1,4 @@
+pub mod Fields
+pub mod Listed
+pub mod Faces
+pub mod Decoded

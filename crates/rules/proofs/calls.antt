@@ -1,0 +1,5 @@
+pub mod Limits
+pub mod ChainCalls
+pub mod Refused
+pub mod Outcomes
+pub mod Undo

@@ -1,0 +1,61 @@
+-- Merge undoes split: any accepted split followed by merge at the dividing cell is accepted and gives back every count and every byte.
+use mathlib.Core.Path.{_≡_, _∙_, ap}
+use mathlib.Core.Bool.{true}
+use mathlib.Core.List.{List, [], _∷_}
+use Prim.Native.Nat.{ℕ, zero, suc, _+_, _<_, _≤_}
+use native.Mathlib.Omega.{arith}
+use borrow.Author.Tests.{le-leb}
+use Rattle.rules.specs.declared.form.OperatorForm.{OperatorForm}
+use Rattle.rules.specs.declared.operator.Operator.{Operator}
+use Rattle.rules.specs.Refusals.{accepted}
+use Rattle.rules.specs.Complex.{Pattern, Complex, complex, countsOf, stored, Sized}
+use Rattle.rules.specs.Good.{Good, isGood}
+use Rattle.rules.specs.Edits.{Step, layers}
+use Rattle.rules.specs.Operators.{Faces, edited, removed, splitStep, mergeStep, step}
+use Rattle.rules.specs.Form.{byteAt, codeOf, cellAt, operatorAt, loneOperator, facesOf}
+use Rattle.rules.specs.Calls.{lent, applyCall}
+use Rattle.rules.proofs.storage.Stored.{sized-is, stored-sized, complex-stored, stored-complex}
+use Rattle.rules.proofs.storage.Tested.{good-is, good-true, complex-bounded}
+use Rattle.rules.proofs.accepting.Accepted.{split-accepted}
+use Rattle.rules.proofs.cells.SplitCells.{good-split}
+use Rattle.rules.proofs.edits.MergeSplit.{merge-accepted, merge-split}
+
+module _ {X : Complex} (G : Good X) (m s : ℕ) (F : Faces) (S : ℕ → Step) (dim : m < 3) (e : splitStep (suc m) s F X ≡ edited S) where
+  pub split-good : Good (layers S)
+  split-good = let a = split-accepted G (suc m) s F (omega arith) dim e in rw (a .1) (good-split G (a .0))
+
+  -- the merge at the cell that the split added is accepted, and leaves the pattern of before
+  pub merge-after-split : mergeStep m (X m .n) (layers S) ≡ removed X
+  merge-after-split =
+      let a = split-accepted G (suc m) s F (omega arith) dim e in
+      rw (a .1) (merge-accepted G (a .0) ∙ ap removed (merge-split G (a .0)))
+
+-- the bytes of a merge at cell t of dimension m
+abbrev pub mergeBytes : ℕ → ℕ → List ℕ
+mergeBytes m t = (0x40 + m) ∷ t ∷ []
+
+merge-form : (m t : ℕ) → m < 3 → t ≤ 255 → loneOperator (mergeBytes m t) ≡ OperatorForm.Decoded (Operator.Merge m t) 2
+unfolding loneOperator operatorAt byteAt codeOf cellAt
+merge-form zero t d h = rw (le-leb t 255 h, le-leb 0 t (omega arith))
+merge-form (suc zero) t d h = rw (le-leb t 255 h, le-leb 0 t (omega arith))
+merge-form (suc (suc zero)) t d h = rw (le-leb t 255 h, le-leb 0 t (omega arith))
+merge-form (suc (suc (suc m))) t d h = absurd (omega arith)
+
+module _ (p : Pattern) (P : Sized p) (good : isGood (complex p) ≡ true) (s : List ℕ) (m c list next : ℕ) (S : ℕ → Step) (dim : m < 3)
+    (form : loneOperator s ≡ OperatorForm.Decoded (Operator.Split (suc m) c list) next)
+    (split-ok : step (Operator.Split (suc m) c list) (facesOf s (Operator.Split (suc m) c list)) (complex p) ≡ edited S) where
+  -- what the split call leaves
+  pub split-call : applyCall p s ≡ lent (record { counts = countsOf (layers S); refusal = accepted }) (stored (layers S))
+  unfolding applyCall
+  split-call = rw (sized-is P, good, form, split-ok)
+
+  -- and the merge call after it
+  pub merge-call : applyCall (stored (layers S)) (mergeBytes m (complex p m .n)) ≡ lent (record { counts = p .counts; refusal = accepted }) p
+  unfolding applyCall step
+  merge-call =
+      let G : Good (complex p) = good-true (complex-bounded p) good in
+      let G' : Good (layers S) = split-good G m c _ S dim split-ok in
+      let few : complex p m .n ≤ 96 = G .few m in
+      let back : complex (stored (layers S)) ≡ layers S = complex-stored G' in
+      rw (sized-is (stored-sized (layers S)), back, good-is G', merge-form m (complex p m .n) dim (omega arith), merge-after-split G m c _ S dim split-ok)
+      (ap (λ (q : Pattern). lent (record { counts = q .counts; refusal = accepted }) q) (stored-complex p P))

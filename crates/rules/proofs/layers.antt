@@ -1,0 +1,4 @@
+pub mod Changes
+pub mod Frame
+pub mod Judged
+pub mod Seams

@@ -1,0 +1,4 @@
+pub mod Eulers
+pub mod Steps
+pub mod Runs
+pub mod CarriedRuns

@@ -1,0 +1,10 @@
+pub mod ReadGood
+pub mod Texts
+pub mod FaceTexts
+pub mod ListsRead
+pub mod CellsRead
+pub mod UpTo
+pub mod ReadWritten
+pub mod ListsWritten
+pub mod CellsWritten
+pub mod WrittenRead
