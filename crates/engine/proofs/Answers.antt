@@ -38,9 +38,9 @@ module _ (p : Pattern) where
 
   module _ (s : List ℕ) where
     -- 1 or 2
-    pub apply-refused : {r : ℕ} → r ≡ tested p → r ≢ accepted → refusedBy r ≡ applyCall p s
+    pub apply-not-good : {r : ℕ} → r ≡ tested p → r ≢ accepted → refusedBy r ≡ applyCall p s
     unfolding tested applyCall
-    apply-refused e n = first-refused p refusedBy _ e n
+    apply-not-good e n = first-refused p refusedBy _ e n
 
     -- 3, 4 or 14
     pub apply-faulty : {r : ℕ} {f : Fault} → tested p ≡ accepted → loneOperator s ≡ OperatorForm.Bad f → r ≡ faultNumber f →

@@ -1,5 +1,5 @@
 -- What the boundary call answers, case by case: refused by 1, 2, 4 or 16, or accepted.
-use mathlib.Core.Path.{_≡_, refl, ap, _∙_}
+use mathlib.Core.Path.{_≡_, refl, sym, ap, _∙_}
 use mathlib.Core.Logic.{_≢_}
 use mathlib.Core.Bool.{true, false, _&&_}
 use mathlib.Core.List.{List}
@@ -19,7 +19,8 @@ use Rattle.rules.proofs.calls.Limits.{chain-limit}
 use Rattle.good.specs.Tested.{tested}
 use Rattle.engine.specs.Boundaries.{product, matrixOf, Factors}
 use Rattle.engine.proofs.FirstTests.{held, refusedBy, chains-short, chain-long, out-long, chains-refused, chains-sized}
-use Rattle.engine.proofs.Dimensions.{at-most-three, count-is, each-dimension}
+use Rattle.rules.proofs.storage.Stored.{count-is}
+use Rattle.engine.proofs.Dimensions.{at-most-three, each-dimension}
 
 module _ (p : Pattern) (d : ℕ) (c out : List ℤ) where
   -- 1, by the chains
@@ -29,9 +30,9 @@ module _ (p : Pattern) (d : ℕ) (c out : List ℤ) where
 
   module _ (l : sizedChain c && sizedChain out ≡ true) where
     -- 1 or 2, by the pattern
-    pub boundary-refused : {r : ℕ} → r ≡ tested p → r ≢ accepted → refusedBy out r ≡ boundaryCall p d c out
+    pub boundary-not-good : {r : ℕ} → r ≡ tested p → r ≢ accepted → refusedBy out r ≡ boundaryCall p d c out
     unfolding boundaryCall
-    boundary-refused e n = chains-refused p c out l _ e n
+    boundary-not-good e n = chains-refused p c out l _ e n
 
     module _ (t : tested p ≡ accepted) where
       -- 4
@@ -41,7 +42,7 @@ module _ (p : Pattern) (d : ℕ) (c out : List ℤ) where
 
       module _ (w : within 1 3 d ≡ true) where
         here : countOf (p .counts) d ≡ complex p d .n
-        here = count-is p d (at-most-three d w)
+        here = sym (count-is p d (at-most-three d w))
 
         -- 16
         pub boundary-chain : isChain boundaryLimit (countOf (p .counts) d) (coefficients c) ≡ false →

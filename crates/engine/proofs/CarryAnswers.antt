@@ -1,5 +1,5 @@
 -- What carrying answers, case by case: refused by 1, 2, 4, the form of the bytes, 17, the operator's own or 16, or accepted.
-use mathlib.Core.Path.{_≡_, ap, _∙_}
+use mathlib.Core.Path.{_≡_, sym, ap, _∙_}
 use mathlib.Core.Logic.{_≢_}
 use mathlib.Core.Bool.{true, false, _&&_}
 use mathlib.Core.List.{List}
@@ -21,11 +21,11 @@ use Rattle.rules.specs.Calls.{Given, sizedChain, coefficients, carryCall, carri
 use Rattle.rules.proofs.branches.FirstTests.{both-passed}
 use Rattle.rules.proofs.calls.Limits.{chain-limit}
 use Rattle.good.specs.Tested.{tested}
-use Rattle.engine.specs.Carrying.{numberOf, rewritten, Writable, Carriable}
+use Rattle.engine.specs.Carrying.{numberOf, rewritten, Rewritable, Carriable}
 use Rattle.engine.proofs.FirstTests.{refusedBy, chains-short, chains-refused, chains-sized}
-use Rattle.engine.proofs.Dimensions.{count-is}
-use Rattle.engine.proofs.Shapes.{formed}
-use Rattle.engine.proofs.Trials.{carry-refused, Edited, carry-accepted}
+use Rattle.rules.proofs.storage.Stored.{count-is}
+use Rattle.engine.proofs.Shapes.{operator-formed}
+use Rattle.engine.proofs.Trials.{after-carry-refused, Edited, carry-accepted}
 use Rattle.engine.proofs.Carried.{chain-within, carried-is, split-passed, flip-passed}
 
 -- once the operator is read
@@ -34,14 +34,14 @@ module _ {p : Pattern} {s : List ℕ} {o : Operator} {d : ℕ} {c out : List ℤ
   -- 17, or the operator's own
   pub through-refused : r ≢ accepted → refusedBy out r ≡ carriedBy p s o d c out
   unfolding carriedBy
-  through-refused n = carry-refused (refusedBy out) _ (carryStep o (facesOf s o) (complex p)) number n
+  through-refused n = after-carry-refused (refusedBy out) _ (carryStep o (facesOf s o) (complex p)) number n
 
   module _ (z : r ≡ accepted) where
     E : Edited (carryStep o (facesOf s o) (complex p))
     E = carry-accepted o (facesOf s o) (complex p) number z
 
     here : countOf (p .counts) d ≡ complex p d .n
-    here = count-is p d (C .dim)
+    here = sym (count-is p d (C .dim))
 
     -- 16
     pub through-chain : isChain carryLimit (countOf (p .counts) d) (coefficients c) ≡ false → refusedBy out wrongChain ≡ carriedBy p s o d c out
@@ -54,8 +54,8 @@ module _ {p : Pattern} {s : List ℕ} {o : Operator} {d : ℕ} {c out : List ℤ
       few : (k : ℕ) {x : ℕ} → x < complex p k .n → x < 96
       few k h = omega (arith, C .held .good .few k)
 
-      pub writable : Writable o (countOf (p .counts) d) d c out
-      writable = record {
+      pub rewritable : Rewritable o (countOf (p .counts) d) d c out
+      rewritable = record {
         long = C .long;
         room = C .room;
         limits = λ i h. chain-limit carryLimit (countOf (p .counts) d) (coefficients c) t i h;
@@ -73,7 +73,7 @@ module _ {p : Pattern} {s : List ℕ} {o : Operator} {d : ℕ} {c out : List ℤ
           let w = chain-within carryLimit (complex p d .n) c (C .long) g in
           rw (E .is, g)
           (ap (λ l. refusedBy l accepted)
-          (q ∙ rw (here, carried-is (complex p) (coefficients c) s o (facesOf s o) (formed (C .source)) (E .is) d w)))
+          (q ∙ rw (here, carried-is (complex p) (coefficients c) s o (facesOf s o) (operator-formed (C .source)) (E .is) d w)))
 
 -- the whole call
 module _ (p : Pattern) (s : List ℕ) (d : ℕ) (c out : List ℤ) where

@@ -17,11 +17,11 @@ difference-size : (a b : ℕ) → natAbs (pos a -ℤ pos b) ≤ a + b
 difference-size a b = omega (arith, add-size (pos a) (negℤ (pos b)), neg-size (pos b))
 
 module _ (a b : ℕ) (p : a < 256) (q : b < 256) where
-  pub difference-fits : SFits w16 (toZ w16 a -ℤ toZ w16 b)
-  difference-fits = rw (byte-is a p, byte-is b q) (fits-size (omega (arith, difference-size a b)))
+  pub count-difference-fits : SFits w16 (toZ w16 a -ℤ toZ w16 b)
+  count-difference-fits = rw (byte-is a p, byte-is b q) (fits-size (omega (arith, difference-size a b)))
 
-  pub difference-is : {z : ℤ} → z ≡ toZ w16 a -ℤ toZ w16 b → Difference a b z
-  difference-is {z} e =
+  pub count-difference-is : {z : ℤ} → z ≡ toZ w16 a -ℤ toZ w16 b → Difference a b z
+  count-difference-is {z} e =
       let f : z ≡ pos a -ℤ pos b = e ∙ rw (byte-is a p, byte-is b q) in
       record { is = f; small = rw f (omega (arith, difference-size a b)) }
 

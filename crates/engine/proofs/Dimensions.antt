@@ -1,5 +1,5 @@
 -- The count of a dimension, and its matrix.
-use mathlib.Core.Path.{_≡_, refl}
+use mathlib.Core.Path.{_≡_}
 use mathlib.Core.Logic.{_≢_}
 use mathlib.Core.Bool.{true}
 use mathlib.Core.List.{List}
@@ -9,17 +9,8 @@ use lib.Dec.{leb}
 use lib.IntN.{ℤ}
 use borrow.Author.Tests.{leb-true, eq-eqb, ne-eqb}
 use Rattle.maths.proofs.Cases.{and-left, and-right}
-use Rattle.rules.specs.Counts.{countOf}
-use Rattle.rules.specs.Complex.{Pattern, complex}
 use Rattle.rules.specs.Form.{within}
 use Rattle.engine.specs.Boundaries.{matrixOf}
-
-pub count-is : (p : Pattern) (d : ℕ) → d ≤ 3 → countOf (p .counts) d ≡ complex p d .n
-count-is p zero h = refl
-count-is p (suc zero) h = refl
-count-is p (suc (suc zero)) h = refl
-count-is p (suc (suc (suc zero))) h = refl
-count-is p (suc (suc (suc (suc d)))) h = absurd (omega arith)
 
 pub at-most-three : (d : ℕ) → within 1 3 d ≡ true → d ≤ 3
 at-most-three d e = leb-true d 3 (and-right (leb 1 d) (leb d 3) e)

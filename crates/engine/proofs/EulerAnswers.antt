@@ -12,9 +12,9 @@ use Rattle.good.specs.Tested.{tested}
 
 module _ (p : Pattern) where
   -- 1 or 2
-  pub euler-refused : {r : ℕ} → r ≡ tested p → r ≢ accepted → record { number = pos 0; refusal = r } ≡ eulerCall p
+  pub euler-not-good : {r : ℕ} → r ≡ tested p → r ≢ accepted → record { number = pos 0; refusal = r } ≡ eulerCall p
   unfolding tested eulerCall
-  euler-refused e n = first-refused p (λ r. record { number = pos 0; refusal = r }) _ e n
+  euler-not-good e n = first-refused p (λ r. record { number = pos 0; refusal = r }) _ e n
 
   -- none of them
   pub euler-accepted : {z : ℤ} → tested p ≡ accepted → z ≡ euler (λ k. bare (countOf (p .counts) k)) →

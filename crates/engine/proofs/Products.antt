@@ -25,8 +25,8 @@ module _ {x e v : ℤ} (t : Term x e v) where
   pub term-fits : SFits w32 (e *ℤ v)
   term-fits = fits-size (omega (arith, bound))
 
-  pub sum-fits : SFits w32 (x +ℤ e *ℤ v)
-  sum-fits = fits-size (omega (arith, bound, t .small, add-size x (e *ℤ v)))
+  pub sum-term-fits : SFits w32 (x +ℤ e *ℤ v)
+  sum-term-fits = fits-size (omega (arith, bound, t .small, add-size x (e *ℤ v)))
 
 -- the first i places are 0
 pub record Clearing (old out : List ℤ) (i : ℕ) : Type 0 where

@@ -17,9 +17,9 @@ use Rattle.rules.specs.Complex.{Chain}
 use Rattle.rules.specs.Edits.{put, negated}
 use Rattle.rules.specs.Calls.{coefficients}
 use Rattle.rules.proofs.layers.Changes.{put-same, put-no}
-use Rattle.engine.specs.Carrying.{rewritten, Writable}
+use Rattle.engine.specs.Carrying.{rewritten, Rewritable}
 
-module _ {o : Operator} {n d : ℕ} {c out after : List ℤ} (w : Writable o n d c out) (e : after ≡ c) where
+module _ {o : Operator} {n d : ℕ} {c out after : List ℤ} (w : Rewritable o n d c out) (e : after ≡ c) where
   -- the chain is left as it is
   same : {f : Chain} → f ≡ coefficients c → after ≡ table 96 f
   same q = rw (e, q) (is-table (pos 0) (w .long) (λ i h. refl))

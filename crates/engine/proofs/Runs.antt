@@ -15,18 +15,18 @@ use Rattle.rules.specs.Complex.{Pattern, complex, pattern, countsOf, stored}
 use Rattle.rules.specs.Operators.{step}
 use Rattle.rules.specs.Form.{operatorAt, facesOf, faultNumber}
 use Rattle.rules.specs.Script.{ended, runOne, runFrom}
-use Rattle.rules.specs.Calls.{lent, applied}
+use Rattle.rules.specs.Calls.{lent, applied, operatorLeft}
 use Rattle.rules.proofs.branches.Numbers.{fault-numbered}
 use Rattle.operators.specs.Held.{Held}
-use Rattle.operators.proofs.patterns.Kept.{left, applied-held}
+use Rattle.operators.proofs.patterns.Kept.{applied-held}
 use Rattle.operators.proofs.patterns.Answered.{answer-accepted, answer-refused}
 use Rattle.engine.specs.Source.{ReadFrom}
-use Rattle.engine.specs.Running.{here, Runnable, Turned, RunTo}
-use Rattle.engine.proofs.Shapes.{formed}
+use Rattle.engine.specs.Running.{here, Runnable, OperatorRun, RunTo}
+use Rattle.engine.proofs.Shapes.{operator-formed}
 
 -- the operator at `at`
 module _ (s : List ℕ) (at : ℕ) (p : Pattern) (H : Held p) where
-  pub turn-faulty : {f : Fault} {next refusal : ℕ} → operatorAt s at ≡ OperatorForm.Bad f → refusal ≡ faultNumber f → Turned s at p next refusal p
+  pub turn-faulty : {f : Fault} {next refusal : ℕ} → operatorAt s at ≡ OperatorForm.Bad f → refusal ≡ faultNumber f → OperatorRun s at p next refusal p
   unfolding runOne
   turn-faulty {f} b q = record {
     held = H;
@@ -42,16 +42,16 @@ module _ (s : List ℕ) (at : ℕ) (p : Pattern) (H : Held p) where
       -- a refused operator leaves the pattern as it was
       unchanged : a .refusal ≢ accepted → pattern (a .counts) m1 m2 m3 ≡ p
       unchanged n =
-          ap left
+          ap operatorLeft
           (e ∙ answer-refused p s o e (λ r. lent (record { counts = p .counts; refusal = r }) p)
           (λ Y. lent (record { counts = countsOf Y; refusal = accepted }) (stored Y)) n)
 
-      pub turn-done : Turned s at p next (a .refusal) (pattern (a .counts) m1 m2 m3)
+      pub turn-done : OperatorRun s at p next (a .refusal) (pattern (a .counts) m1 m2 m3)
       unfolding runOne
       turn-done = record {
-        held = applied-held s o H (formed source) e;
+        held = applied-held s o H (operator-formed source) e;
         goes = λ q ran go.
-            rw d (answer-accepted p s o e (λ r. ended (complex p) ran r) (λ X. go (here X (ran + 1) next)) H (formed source) q);
+            rw d (answer-accepted p s o e (λ r. ended (complex p) ran r) (λ X. go (here X (ran + 1) next)) H (operator-formed source) q);
         ends = λ n ran go.
             rw d (answer-refused p s o e (λ r. ended (complex p) ran r) (λ X. go (here X (ran + 1) next)) n
             ∙ ap (λ x. ended (complex x) ran (a .refusal)) (sym (unchanged n)));
@@ -59,18 +59,18 @@ module _ (s : List ℕ) (at : ℕ) (p : Pattern) (H : Held p) where
 
 -- the rest of the run, from where it stands, is the whole
 module _ (s : List ℕ) (n : ℕ) (p : Pattern) where
-  pub record Under (left ran place : ℕ) (q : Pattern) : Type 0 where
+  pub record OperatorsLeft (operatorLeft ran place : ℕ) (q : Pattern) : Type 0 where
     pub held : Held q
-    pub count : ran + left ≡ n
+    pub count : ran + operatorLeft ≡ n
     pub few : n ≤ 1024
-    pub rest : runFrom s left (here (complex q) ran place) ≡ runFrom s n (here (complex p) 0 7)
+    pub rest : runFrom s operatorLeft (here (complex q) ran place) ≡ runFrom s n (here (complex p) 0 7)
 
-  pub run-starts : Runnable n p → Under n 0 7 p
+  pub run-starts : Runnable n p → OperatorsLeft n 0 7 p
   run-starts R = record { held = R .held; count = omega arith; few = R .few; rest = refl }
 
-  module _ {left ran place : ℕ} {q : Pattern} (U : Under left ran place q) where
-    module _ {next refusal : ℕ} {q' : Pattern} (T : Turned s place q next refusal q') (h : 0 < left) where
-      pub run-more : refusal ≡ accepted → Under (left - 1) (ran + 1) next q'
+  module _ {operatorLeft ran place : ℕ} {q : Pattern} (U : OperatorsLeft operatorLeft ran place q) where
+    module _ {next refusal : ℕ} {q' : Pattern} (T : OperatorRun s place q next refusal q') (h : 0 < operatorLeft) where
+      pub run-more : refusal ≡ accepted → OperatorsLeft (operatorLeft - 1) (ran + 1) next q'
       unfolding runFrom
       run-more e = record {
         held = T .held;
@@ -86,6 +86,6 @@ module _ (s : List ℕ) (n : ℕ) (p : Pattern) where
         is = turns.stopped (runOne s) _ (here (complex q) ran place) h (T .ends e ran) ∙ U .rest;
       }
 
-    pub run-ends : left ≡ 0 → RunTo s n p ran accepted q
+    pub run-ends : operatorLeft ≡ 0 → RunTo s n p ran accepted q
     unfolding runFrom
     run-ends z = record { held = U .held; is = turns.ended (runOne s) _ (here (complex q) ran place) z refl ∙ U .rest }

@@ -68,9 +68,9 @@ module _ (p : Pattern) (s : List ℕ) where
 
   module _ (short : length s ≤ 24576) where
     -- 1 or 2, by the pattern
-    pub run-refused : {r : ℕ} → r ≡ tested p → r ≢ accepted → idle r ≡ runCall p s
+    pub run-not-good : {r : ℕ} → r ≡ tested p → r ≢ accepted → idle r ≡ runCall p s
     unfolding tested runCall
-    run-refused e n = rw (le-leb (length s) 24576 short, and-true (sized p)) (first-refused p idle _ e n)
+    run-not-good e n = rw (le-leb (length s) 24576 short, and-true (sized p)) (first-refused p idle _ e n)
 
     module _ (four : length (p .counts .n) ≡ 4) (e : tested p ≡ accepted) where
       -- what the script answers on a good pattern

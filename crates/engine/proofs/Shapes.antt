@@ -86,9 +86,9 @@ module _ (s : List ℕ) (at : ℕ) {o : Operator} {next : ℕ} (F : Formed s o) 
   operands-shaped Code.Unknown e = absurd (bad-operator (Fault.Wrong at) e)
 
 module _ {s : List ℕ} {o : Operator} (R : ReadFrom s o) where
-  pub formed : Formed s o
-  formed = decoded s (R .at) (R .form) .0
+  pub operator-formed : Formed s o
+  operator-formed = decoded s (R .at) (R .form) .0
 
   pub shaped : Shaped s o
   unfolding operatorAt
-  shaped = operands-shaped s (R .at) formed (codeOf (getD s (R .at) 0)) (byte-after s (R .at) 0 255 _ bad-operator (R .form) .1)
+  shaped = operands-shaped s (R .at) operator-formed (codeOf (getD s (R .at) 0)) (byte-after s (R .at) 0 255 _ bad-operator (R .form) .1)

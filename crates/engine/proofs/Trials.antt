@@ -56,11 +56,11 @@ carry-keeps (Merge k t) F X e = refused-removed notCarried e
 carry-keeps (Flip k c) F X e = flip-keeps X k c e
 
 -- another number than 0 is the refusal's
-pub carry-refused : {A : Type 0} (bad : ℕ → A) (go : (ℕ → Step) → A) (x : Outcome) {r : ℕ} → r ≡ numberOf x → r ≢ accepted → bad r ≡ afterCarry x bad go
+pub after-carry-refused : {A : Type 0} (bad : ℕ → A) (go : (ℕ → Step) → A) (x : Outcome) {r : ℕ} → r ≡ numberOf x → r ≢ accepted → bad r ≡ afterCarry x bad go
 unfolding numberOf
-carry-refused bad go (refused q) e n = ap bad e
-carry-refused bad go (edited S) e n = absurd (n e)
-carry-refused bad go (removed Y) e n = absurd (n e)
+after-carry-refused bad go (refused q) e n = ap bad e
+after-carry-refused bad go (edited S) e n = absurd (n e)
+after-carry-refused bad go (removed Y) e n = absurd (n e)
 
 -- and 0 says that layers and chains change
 pub record Edited (x : Outcome) : Type 0 where

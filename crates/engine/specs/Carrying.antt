@@ -31,7 +31,7 @@ rewritten (Merge k t) n d c = c
 rewritten (Flip k s) n d c = cond (eqb d k) (negated s c) c
 
 -- a chain within the limit, 96 places for it as it is carried, and the numbers of the cells where it changes
-pub record Writable (o : Operator) (n d : ℕ) (c out : List ℤ) : Type 0 where
+pub record Rewritable (o : Operator) (n d : ℕ) (c out : List ℤ) : Type 0 where
   pub long : length c ≡ 96
   pub room : length out ≡ 96
   pub limits : (i : ℕ) → i < 96 → natAbs (getD c i (pos 0)) ≤ carryLimit

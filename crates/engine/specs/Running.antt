@@ -17,7 +17,7 @@ pub record Runnable (n : ℕ) (p : Pattern) : Type 0 where
   pub few : n ≤ 1024
 
 -- after the operator at `at`: the run goes on from `next` with the pattern q, or ends there
-pub record Turned (s : List ℕ) (at : ℕ) (p : Pattern) (next refusal : ℕ) (q : Pattern) : Type 0 where
+pub record OperatorRun (s : List ℕ) (at : ℕ) (p : Pattern) (next refusal : ℕ) (q : Pattern) : Type 0 where
   pub held : Held q
   pub goes : refusal ≡ accepted → (ran : ℕ) (go : Here → Ended) → runOne s (here (complex p) ran at) go ≡ go (here (complex q) (ran + 1) next)
   pub ends : refusal ≢ accepted → (ran : ℕ) (go : Here → Ended) → runOne s (here (complex p) ran at) go ≡ ended (complex q) ran refusal

@@ -11,7 +11,7 @@ ghost use Rattle.rules.specs.Calls.{coefficients, carryCall, carriedBy};
 ghost use Rattle.rules.specs.Lending.{asLent, atEntry};
 ghost use Rattle.operators.specs.Held.{Held};
 ghost use Rattle.engine.specs.Source.{ReadFrom};
-ghost use Rattle.engine.specs.Carrying.{numberOf, rewritten, Writable, Carriable};
+ghost use Rattle.engine.specs.Carrying.{numberOf, rewritten, Rewritable, Carriable};
 use crate::apply::apply;
 use crate::chains::copy_chain;
 use crate::chains::is_chain;
@@ -73,7 +73,7 @@ fn negate(z: i32) -> i32
 
 // The chain of n cells of dimension d, as an accepted operator carries it; a kill and a merge are none.
 fn write_carried(o: Operator, n: u8, d: u8, chain: &[i32], out: &mut [i32])
-    requires { ⌜ Writable o n d (now chain) (now out) ⌝ }
+    requires { ⌜ Rewritable o n d (now chain) (now out) ⌝ }
     ensures { λ _. ⌜ now (out .exit) ≡ table 96 (rewritten o n d (coefficients (now (chain .entry)))) ⌝ }
 {
     copy_chain(out, chain);

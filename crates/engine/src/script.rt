@@ -7,7 +7,7 @@ ghost use Rattle.maths.specs.Tests.{all};
 ghost use Rattle.rules.specs.Counts.{countOf};
 ghost use Rattle.rules.specs.Lending.{asLent, atEntry, atExit};
 ghost use Rattle.operators.specs.Held.{Held};
-ghost use Rattle.engine.specs.Running.{Runnable, Turned, RunTo};
+ghost use Rattle.engine.specs.Running.{Runnable, OperatorRun, RunTo};
 use crate::apply::apply;
 use form::fields::refusal_of;
 use form::operators::read_operator;
@@ -34,7 +34,7 @@ pub(crate) fn same_base(c: Counts, s: &[u8]) -> bool
 // The operator at `at`.
 fn run_one(c: Counts, s: &[u8], at: usize, m1: &mut [i8], m2: &mut [i8], m3: &mut [i8]) -> OneRun
     requires { ⌜ Held (asLent c m1 m2 m3) ⌝ }
-    ensures { λ r. ⌜ Turned (now (s .entry)) at (atEntry c m1 m2 m3) (r .next) (r .refusal) (atExit (r .counts) m1 m2 m3) ⌝ }
+    ensures { λ r. ⌜ OperatorRun (now (s .entry)) at (atEntry c m1 m2 m3) (r .next) (r .refusal) (atExit (r .counts) m1 m2 m3) ⌝ }
 {
     match read_operator(s, at) {
         OperatorForm::Bad(f) => OneRun {

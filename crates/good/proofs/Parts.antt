@@ -18,7 +18,7 @@ use Rattle.rules.specs.Good.{isGood}
 use Rattle.rules.specs.Calls.{sized}
 use Rattle.good.specs.Tested.{tested}
 use Rattle.good.specs.Columns.{Matrix}
-use Rattle.good.specs.Parts.{cells, fewCells, allInPlace, formed, sound, Stored}
+use Rattle.good.specs.Parts.{cellsOf, fewCells, allInPlace, formed, sound, Stored}
 
 pub three : {a b c : Bool} → a && b && c ≡ true → (a ≡ true) × (b ≡ true) × (c ≡ true)
 three {a} {b} {c} t = let ab = and-left (a && b) c t in (and-left a b ab, and-right a b ab, and-right (a && b) c t)
@@ -42,19 +42,19 @@ pub record Counted (p : Pattern) (n0 n1 n2 n3 : ℕ) : Type 0 where
   pub few : fewCells (p .counts) ≡ true
 
 module _ {p : Pattern} {n0 n1 n2 n3 : ℕ} (s : Counted p n0 n1 n2 n3) where
-  sound-cells : sound (complex p) ≡ sound (cells n0 n1 n2 n3 (p .m1) (p .m2) (p .m3))
+  sound-cells : sound (complex p) ≡ sound (cellsOf n0 n1 n2 n3 (p .m1) (p .m2) (p .m3))
   unfolding sound allInPlace formed
   sound-cells = rw (s .corners, s .seams, s .panels, s .blocks)
 
-  pub good-cells : isGood (complex p) ≡ sound (cells n0 n1 n2 n3 (p .m1) (p .m2) (p .m3))
+  pub good-cells : isGood (complex p) ≡ sound (cellsOf n0 n1 n2 n3 (p .m1) (p .m2) (p .m3))
   good-cells = good-parts p ∙ rw (s .few) sound-cells
 
   at : {n : ℕ} (k : ℕ) → n ≡ countOf (p .counts) k → k < 4 → n ≤ 96
   unfolding fewCells
   at k e h = rw e (leb-true (countOf (p .counts) k) 96 (all-at 4 (λ k. leb (countOf (p .counts) k) 96) (s .few) k h))
 
-  pub stored : sized p ≡ true → Stored n0 n1 n2 n3 (p .m1) (p .m2) (p .m3)
-  stored long =
+  pub stored-matrices : sized p ≡ true → Stored n0 n1 n2 n3 (p .m1) (p .m2) (p .m3)
+  stored-matrices long =
       let c0 = at 0 (s .corners) (omega arith) in
       let c1 = at 1 (s .seams) (omega arith) in
       let c2 = at 2 (s .panels) (omega arith) in

@@ -15,8 +15,8 @@ use Rattle.rules.specs.Good.{oneEach, allZero, inPlace, closes}
 use Rattle.good.specs.Columns.{Matrix}
 
 -- the complex of four counts and three matrices
-abbrev pub cells : ℕ → ℕ → ℕ → ℕ → List ℤ → List ℤ → List ℤ → Complex
-cells n0 n1 n2 n3 m1 m2 m3 = complex (record { counts = record { n = n0 ∷ n1 ∷ n2 ∷ n3 ∷ [] }; m1 = m1; m2 = m2; m3 = m3 })
+abbrev pub cellsOf : ℕ → ℕ → ℕ → ℕ → List ℤ → List ℤ → List ℤ → Complex
+cellsOf n0 n1 n2 n3 m1 m2 m3 = complex (record { counts = record { n = n0 ∷ n1 ∷ n2 ∷ n3 ∷ [] }; m1 = m1; m2 = m2; m3 = m3 })
 
 -- every count is at most 96
 unfoldable pub fewCells : Counts → Bool

@@ -7,7 +7,7 @@ ghost use Rattle.rules.specs.Complex.{complex};
 ghost use Rattle.rules.specs.Good.{isGood};
 ghost use Rattle.rules.specs.Calls.{sized};
 ghost use Rattle.rules.specs.Lending.{asLent, atEntry};
-ghost use Rattle.good.specs.Parts.{cells, fewCells, formed, sound, Stored, AllPlaced};
+ghost use Rattle.good.specs.Parts.{cellsOf, fewCells, formed, sound, Stored, AllPlaced};
 use crate::columns::faces;
 use crate::columns::in_place;
 use crate::columns::seams;
@@ -33,7 +33,7 @@ fn few(c: Counts) -> bool
 fn is_formed(n0: usize, n1: usize, n2: usize, n3: usize, m1: &[i8], m2: &[i8], m3: &[i8]) -> bool
     requires { ⌜ Stored n0 n1 n2 n3 (now m1) (now m2) (now m3) ⌝ }
     requires { ⌜ AllPlaced n0 n1 n2 (now m1) (now m2) (now m3) ⌝ }
-    ensures { λ r. ⌜ r ≡ formed (cells n0 n1 n2 n3 (now (m1 .entry)) (now (m2 .entry)) (now (m3 .entry))) ⌝ }
+    ensures { λ r. ⌜ r ≡ formed (cellsOf n0 n1 n2 n3 (now (m1 .entry)) (now (m2 .entry)) (now (m3 .entry))) ⌝ }
 {
     seams(m1, n1)
         & (faces(m2, n2) & faces(m3, n3))
@@ -43,7 +43,7 @@ fn is_formed(n0: usize, n1: usize, n2: usize, n3: usize, m1: &[i8], m2: &[i8], m
 // Whether all entries are in place, and then whether the columns are formed.
 fn is_sound(n0: usize, n1: usize, n2: usize, n3: usize, m1: &[i8], m2: &[i8], m3: &[i8]) -> bool
     requires { ⌜ Stored n0 n1 n2 n3 (now m1) (now m2) (now m3) ⌝ }
-    ensures { λ r. ⌜ r ≡ sound (cells n0 n1 n2 n3 (now (m1 .entry)) (now (m2 .entry)) (now (m3 .entry))) ⌝ }
+    ensures { λ r. ⌜ r ≡ sound (cellsOf n0 n1 n2 n3 (now (m1 .entry)) (now (m2 .entry)) (now (m3 .entry))) ⌝ }
 {
     (in_place(m1, n0, n1) & in_place(m2, n1, n2) & in_place(m3, n2, n3))
         && is_formed(n0, n1, n2, n3, m1, m2, m3)

@@ -47,9 +47,9 @@ face-most i z h =
     by-bool (isZero z) (λ t. length (cond t [] (signedFace i z)) ≤ 4) (λ e. omega arith) (λ e. signed-most i z h)
 
 -- how far the faces below i reach
-pub faces-most : (v : Chain) {i : ℕ} {x y : List ℕ} {at next : ℕ} →
+pub face-texts-most : (v : Chain) {i : ℕ} {x y : List ℕ} {at next : ℕ} →
     Pieces (λ i. oneFace signedFace i (v i)) 96 i x at next y → next ≤ at + i * 4
-faces-most v {i} p =
+face-texts-most v {i} p =
     omega (arith, p .put .place, join-most i 4 (λ i. oneFace signedFace i (v i)) (λ k l. face-most k (v k) (omega (arith, p .most))))
 
 -- the number of an entry of a column is a byte

@@ -18,7 +18,7 @@ use Rattle.rules.specs.Complex.{Chain}
 use Rattle.rules.specs.Mesh.{faceWith, pair, eachFace, writeCell, oneFace, faceCount}
 use Rattle.rules.proofs.texts.FaceTexts.{faces-are}
 use Rattle.rules.proofs.calls.Limits.{cell-length}
-use Rattle.mesh.specs.Writing.{seamText, listText, cells}
+use Rattle.mesh.specs.Writing.{seamText, listText, cellTexts}
 
 -- two bytes for each face
 faces-below : (n : ℕ) (v : Chain) → length (join n (λ i. oneFace pair i (v i))) ≡ 2 * count n (λ i. not (isZero (v i)))
@@ -53,14 +53,14 @@ unfolding writeCell
 cell-list {k} v h = rw (ne-eqb k 1 h)
 
 module _ (k : ℕ) (m : List ℤ) where
-  pub cells-none : length (cells k m 0) ≡ 0
-  unfolding cells
+  pub cells-none : length (cellTexts k m 0) ≡ 0
+  unfolding cellTexts
   cells-none = rw join-zero
 
-  pub cells-more : (j : ℕ) → length (cells k m (j + 1)) ≡ length (cells k m j) + length (writeCell k (column m j))
-  unfolding cells
-  cells-more j = rw (join-next, length-append)
+  pub cell-texts-more : (j : ℕ) → length (cellTexts k m (j + 1)) ≡ length (cellTexts k m j) + length (writeCell k (column m j))
+  unfolding cellTexts
+  cell-texts-more j = rw (join-next, length-append)
 
-  pub cells-most : (n : ℕ) → length (cells k m n) ≤ n * 193
-  unfolding cells
+  pub cells-most : (n : ℕ) → length (cellTexts k m n) ≤ n * 193
+  unfolding cellTexts
   cells-most n = join-most n 193 _ (λ j h. cell-length k (column m j))

@@ -5,7 +5,7 @@ use mathlib.Core.List.{List}
 use Prim.Native.Nat.{ℕ, _+_, _-_, _<_}
 use lib.IntN.{ℤ}
 use Rattle.maths.specs.Repeat.{repeat}
-use Rattle.maths.proofs.Repeat.{ended, turned, stopped}
+use Rattle.maths.proofs.Repeat.{repeat-ended, turned, stopped}
 use Rattle.rules.specs.declared.answers.Applied.{Applied}
 use Rattle.rules.specs.declared.answers.MeshRead.{MeshRead}
 use Rattle.rules.specs.declared.form.Fault.{Fault}
@@ -23,11 +23,11 @@ use Rattle.rules.proofs.bytes.Decoded.{made}
 use Rattle.operators.specs.Held.{Held, MakeForm}
 use Rattle.operators.proofs.patterns.Kept.{applied-held}
 use Rattle.operators.proofs.patterns.Answered.{answer-accepted, answer-refused}
-use Rattle.mesh.specs.Reading.{Readable, Went}
+use Rattle.mesh.specs.Reading.{Readable, PartRead}
 
 -- a part that is a fault of the form
 pub faulted : {part : (Place → Reading) → Reading} {r : MeshRead} {q : Pattern} (f : Fault)
-    → Held q → r .refusal ≡ faultNumber f → ((go : Place → Reading) → part go ≡ faulty f) → Went part r q
+    → Held q → r .refusal ≡ faultNumber f → ((go : Place → Reading) → part go ≡ faulty f) → PartRead part r q
 faulted f H e is = record {
   held = H;
   goes = λ a. absurd (fault-numbered f (sym e ∙ a));
@@ -36,7 +36,7 @@ faulted f H e is = record {
 
 -- a part told otherwise
 pub went-as : {part part' : (Place → Reading) → Reading} {r : MeshRead} {q : Pattern}
-    → ((go : Place → Reading) → part go ≡ part' go) → Went part' r q → Went part r q
+    → ((go : Place → Reading) → part go ≡ part' go) → PartRead part' r q → PartRead part r q
 went-as same W = record {
   held = W .held;
   goes = λ e go. same go ∙ W .goes e go;
@@ -59,7 +59,7 @@ module _ (s : List ℕ) (k at : ℕ) (p : Pattern) where
     cell-form = record { most = R .dim; next = next; form = decoded }
 
     pub cell-went : {a : Applied} {m1 m2 m3 : List ℤ} → lent a (pattern (a .counts) m1 m2 m3) ≡ applied p (makeStep k (madeOf s k at) (complex p))
-        → Went cell (record { counts = a .counts; used = next; refusal = a .refusal }) (pattern (a .counts) m1 m2 m3)
+        → PartRead cell (record { counts = a .counts; used = next; refusal = a .refusal }) (pattern (a .counts) m1 m2 m3)
     unfolding readCell step
     cell-went {a} e =
         let make = Operator.Make k at in
@@ -79,16 +79,16 @@ module _ (s : List ℕ) (k n : ℕ) (start : Place) where
   abbrev cells : (Place → Reading) → Reading
   cells go = repeat (readCell s k) go n start
 
-  pub record Under (left place : ℕ) (p : Pattern) : Type 0 where
+  pub record CellsLeft (left place : ℕ) (p : Pattern) : Type 0 where
     pub held : Held p
     pub rest : (go : Place → Reading) → repeat (readCell s k) go left (complex p, place) ≡ cells go
 
-  module _ {left place : ℕ} {p : Pattern} (U : Under left place p) where
-    module _ {r : MeshRead} {q : Pattern} (W : Went (readCell s k (complex p, place)) r q) (h : 0 < left) where
-      pub cells-more : r .refusal ≡ accepted → Under (left - 1) (r .used) q
+  module _ {left place : ℕ} {p : Pattern} (U : CellsLeft left place p) where
+    module _ {r : MeshRead} {q : Pattern} (W : PartRead (readCell s k (complex p, place)) r q) (h : 0 < left) where
+      pub cells-more : r .refusal ≡ accepted → CellsLeft (left - 1) (r .used) q
       cells-more e = record { held = W .held; rest = λ go. turned (readCell s k) go (complex p, place) h (W .goes e) ∙ U .rest go }
 
-      pub cells-stop : r .refusal ≢ accepted → Went cells r q
+      pub cells-stop : r .refusal ≢ accepted → PartRead cells r q
       cells-stop n = let E = W .ends n in record {
         held = W .held;
         goes = λ e. absurd (n e);
@@ -99,10 +99,10 @@ module _ (s : List ℕ) (k n : ℕ) (start : Place) where
         };
       }
 
-    pub cells-end : {r : MeshRead} → left ≡ 0 → r .refusal ≡ accepted → r .used ≡ place → Went cells r p
+    pub cells-end : {r : MeshRead} → left ≡ 0 → r .refusal ≡ accepted → r .used ≡ place → PartRead cells r p
     cells-end z e u = record {
       held = U .held;
-      goes = λ _ go. sym (U .rest go) ∙ sym (ended (readCell s k) go (complex p, place) z (rw u refl));
+      goes = λ _ go. sym (U .rest go) ∙ sym (repeat-ended (readCell s k) go (complex p, place) z (rw u refl));
       ends = λ n. absurd (n e);
     }
 

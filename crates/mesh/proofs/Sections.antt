@@ -8,7 +8,7 @@ use lib.ListN.{length, length-append}
 use Rattle.rules.specs.Counts.{countOf}
 use Rattle.rules.specs.Complex.{Pattern, complex}
 use Rattle.rules.specs.Mesh.{writeSection, writeMesh}
-use Rattle.mesh.specs.Writing.{cells, sectionText}
+use Rattle.mesh.specs.Writing.{cellTexts, sectionText}
 use Rattle.mesh.proofs.CellTexts.{cells-most}
 
 abbrev seams : Pattern → List ℕ
@@ -21,7 +21,7 @@ abbrev blocks : Pattern → List ℕ
 blocks p = sectionText 3 (p .m3) (countOf (p .counts) 3)
 
 pub mesh-is : (p : Pattern) → (((countOf (p .counts) 0 ∷ []) ++ seams p) ++ panels p) ++ blocks p ≡ writeMesh (complex p)
-unfolding writeMesh writeSection cells
+unfolding writeMesh writeSection cellTexts
 mesh-is p = simp append-assoc
 
 pub mesh-size : (p : Pattern) → length (writeMesh (complex p)) ≡ 1 + length (seams p) + length (panels p) + length (blocks p)

@@ -20,7 +20,7 @@ use Rattle.rules.proofs.branches.Numbers.{fault-numbered}
 use Rattle.rules.proofs.texts.ReadGood.{corners-good}
 use Rattle.rules.proofs.storage.Stored.{lengths, complex-stored, stored-complex}
 use Rattle.operators.proofs.patterns.Kept.{stored-held}
-use Rattle.mesh.specs.Reading.{Long, Zeros, zeros, refusalOf, Went, from, Sofar, Next}
+use Rattle.mesh.specs.Reading.{Long, Zeros, zeros, refusalOf, PartRead, from, ReadUpTo, NextSection}
 
 module _ (s : List ℕ) where
   -- the corner count
@@ -29,7 +29,7 @@ module _ (s : List ℕ) where
   begins e = rw e
 
   pub corners-read : {n : ℕ} → byteAt s 0 0 96 ≡ Field.Got n
-      → Sofar s 1 (record { counts = record { n = n ∷ 0 ∷ 0 ∷ 0 ∷ [] }; used = 1; refusal = accepted }) (zeros (record { n = n ∷ 0 ∷ 0 ∷ 0 ∷ [] }))
+      → ReadUpTo s 1 (record { counts = record { n = n ∷ 0 ∷ 0 ∷ 0 ∷ [] }; used = 1; refusal = accepted }) (zeros (record { n = n ∷ 0 ∷ 0 ∷ 0 ∷ [] }))
   corners-read {n} e =
       let G = corners-good n (byte-says s 0 0 96 n e .most) in
       record {
@@ -42,7 +42,7 @@ module _ (s : List ℕ) where
   unfolding readMesh
   corners-faulty e = rw e
 
-  pub corners-refused : {f : Fault} {r : MeshRead} {number : ℕ} → byteAt s 0 0 96 ≡ Field.Bad f → number ≡ faultNumber f → r ≡ noMesh number → Sofar s 1 r (zeros (r .counts))
+  pub corners-refused : {f : Fault} {r : MeshRead} {number : ℕ} → byteAt s 0 0 96 ≡ Field.Bad f → number ≡ faultNumber f → r ≡ noMesh number → ReadUpTo s 1 r (zeros (r .counts))
   corners-refused {f} e q a = rw a (record {
     held = stored-held (corners-good 0 (omega arith));
     goes = λ z. absurd (fault-numbered f (sym q ∙ z));
@@ -58,8 +58,8 @@ module _ (s : List ℕ) where
   from-next (suc (suc (suc zero))) x l h = refl
   from-next (suc (suc (suc (suc k)))) x l h = absurd (omega arith)
 
-  module _ {k : ℕ} {r : MeshRead} {p : Pattern} (N : Next s k r p) where
-    pub next-read : {r' : MeshRead} {q : Pattern} → r .refusal ≡ accepted → Went (readSection s k (complex p, r .used)) r' q → Sofar s (k + 1) r' q
+  module _ {k : ℕ} {r : MeshRead} {p : Pattern} (N : NextSection s k r p) where
+    pub next-read : {r' : MeshRead} {q : Pattern} → r .refusal ≡ accepted → PartRead (readSection s k (complex p, r .used)) r' q → ReadUpTo s (k + 1) r' q
     next-read a W =
         let so = N .sofar .goes a ∙ from-next k (complex p, r .used) (N .least) (N .most) in
         record {
@@ -68,7 +68,7 @@ module _ (s : List ℕ) where
           ends = λ n. let E = W .ends n in ap refusalOf (so ∙ E .is (from s (k + 1))) ∙ E .number;
         }
 
-    pub next-refused : r .refusal ≢ accepted → Sofar s (k + 1) r p
+    pub next-refused : r .refusal ≢ accepted → ReadUpTo s (k + 1) r p
     next-refused n = record { held = N .sofar .held; goes = λ e. absurd (n e); ends = N .sofar .ends }
 
 pub sized-long : (c : Counts) (m1 m2 m3 : List ℤ) → sized (pattern c m1 m2 m3) ≡ true → Long m1 m2 m3
@@ -81,9 +81,9 @@ module _ (s : List ℕ) (p : Pattern) where
   wrong-length e a = rw (a, e)
 
   module _ (long : sized p ≡ true) where
-    pub mesh-taken : {r : MeshRead} {q : Pattern} → Sofar s 4 r q → r .counts ≡ q .counts → r .refusal ≡ accepted → lent r q ≡ readCall s p
+    pub reading-taken : {r : MeshRead} {q : Pattern} → ReadUpTo s 4 r q → r .counts ≡ q .counts → r .refusal ≡ accepted → lent r q ≡ readCall s p
     unfolding readCall from
-    mesh-taken {r} {q} S c e =
+    reading-taken {r} {q} S c e =
         let answer : Pattern → MeshRead = λ p. record { counts = p .counts; used = r .used; refusal = accepted } in
         let is : r ≡ answer q = λ i. record { counts = c i; used = r .used; refusal = e i } in
         rw (long, S .goes e) (ap (λ a. lent a q) is ∙ sym (ap (λ p. lent (answer p) p) (stored-complex q (S .held .sized))))
@@ -93,8 +93,8 @@ module _ (s : List ℕ) (p : Pattern) where
     refused-as bad go (refused r) e n = rw e
     refused-as bad go (taken X used) e n = absurd (n (sym e))
 
-    pub mesh-refused : {r r' : MeshRead} {q : Pattern} {m1 m2 m3 : List ℤ} → Sofar s 4 r q → r .refusal ≢ accepted → Zeros m1 m2 m3 → r' ≡ noMesh (r .refusal)
+    pub reading-refused : {r r' : MeshRead} {q : Pattern} {m1 m2 m3 : List ℤ} → ReadUpTo s 4 r q → r .refusal ≢ accepted → Zeros m1 m2 m3 → r' ≡ noMesh (r .refusal)
         → lent r' (pattern (countsOf empty) m1 m2 m3) ≡ readCall s p
     unfolding readCall
-    mesh-refused {r} S n Z a =
+    reading-refused {r} S n Z a =
         rw (a, Z .zero1, Z .zero2, Z .zero3, long) (refused-as (λ r. lent (noMesh r) (stored empty)) _ (readMesh s) (S .ends n) n)

@@ -38,16 +38,16 @@ abbrev pub refusalOf : Reading → ℕ
 refusalOf x = afterReading x (λ r. r) (λ X used. accepted)
 
 -- a part of the reading that is refused by r, whatever is to follow
-pub record Ends (part : (Place → Reading) → Reading) (r : ℕ) : Type 0 where
+pub record PartRefused (part : (Place → Reading) → Reading) (r : ℕ) : Type 0 where
   pub last : Reading
   pub is : (go : Place → Reading) → part go ≡ last
   pub number : refusalOf last ≡ r
 
 -- after a part of the reading: it hands on the pattern that is held and the next place, or it is refused
-pub record Went (part : (Place → Reading) → Reading) (r : MeshRead) (q : Pattern) : Type 0 where
+pub record PartRead (part : (Place → Reading) → Reading) (r : MeshRead) (q : Pattern) : Type 0 where
   pub held : Held q
   pub goes : r .refusal ≡ accepted → (go : Place → Reading) → part go ≡ go (complex q, r .used)
-  pub ends : r .refusal ≢ accepted → Ends part (r .refusal)
+  pub ends : r .refusal ≢ accepted → PartRefused part (r .refusal)
 
 -- what is left to read from dimension k on
 unfoldable pub from : List ℕ → ℕ → Place → Reading
@@ -58,13 +58,13 @@ from s (suc (suc (suc zero))) x = readSection s 3 x λ y. taken (y .0) (y .1)
 from s (suc (suc (suc (suc k)))) x = taken (x .0) (x .1)
 
 -- the mesh is read up to dimension k, or it is refused
-pub record Sofar (s : List ℕ) (k : ℕ) (r : MeshRead) (q : Pattern) : Type 0 where
+pub record ReadUpTo (s : List ℕ) (k : ℕ) (r : MeshRead) (q : Pattern) : Type 0 where
   pub held : Held q
   pub goes : r .refusal ≡ accepted → readMesh s ≡ from s k (complex q, r .used)
   pub ends : r .refusal ≢ accepted → refusalOf (readMesh s) ≡ r .refusal
 
 -- and dimension k is the next to be read
-pub record Next (s : List ℕ) (k : ℕ) (r : MeshRead) (q : Pattern) : Type 0 where
+pub record NextSection (s : List ℕ) (k : ℕ) (r : MeshRead) (q : Pattern) : Type 0 where
   pub least : 1 ≤ k
   pub most : k ≤ 3
-  pub sofar : Sofar s k r q
+  pub sofar : ReadUpTo s k r q

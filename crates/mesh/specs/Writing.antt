@@ -18,12 +18,12 @@ abbrev pub listText : Chain → List ℕ
 listText v = faceCount v ∷ eachFace pair v
 
 -- the first n cells of dimension k
-unfoldable pub cells : ℕ → List ℤ → ℕ → List ℕ
-cells k m n = join n (λ j. writeCell k (column m j))
+unfoldable pub cellTexts : ℕ → List ℤ → ℕ → List ℕ
+cellTexts k m n = join n (λ j. writeCell k (column m j))
 
 -- their section: how many, and the cells
 abbrev pub sectionText : ℕ → List ℤ → ℕ → List ℕ
-sectionText k m n = n ∷ cells k m n
+sectionText k m n = n ∷ cellTexts k m n
 
 -- column j of a stored matrix, and room for its text
 pub record ColumnFits (m : List ℤ) (j : ℕ) (out : List ℕ) (at : ℕ) (text : List ℕ) : Type 0 where

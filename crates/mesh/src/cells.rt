@@ -3,7 +3,7 @@ ghost use Rattle.maths.specs.Repeat.{repeat};
 ghost use Rattle.rules.specs.Complex.{complex};
 ghost use Rattle.rules.specs.Mesh.{readCell, readSection};
 ghost use Rattle.rules.specs.Lending.{asLent, atEntry, atExit};
-ghost use Rattle.mesh.specs.Reading.{Readable, Went};
+ghost use Rattle.mesh.specs.Reading.{Readable, PartRead};
 use form::fields::byte_form;
 use form::fields::refusal_of;
 use form::operators::make_form;
@@ -25,7 +25,7 @@ fn read_cell(
     m3: &mut [i8],
 ) -> MeshRead
     requires { ⌜ Readable k (asLent c m1 m2 m3) ⌝ }
-    ensures { λ r. ⌜ Went (readCell (now (s .entry)) k (complex (atEntry c m1 m2 m3), at)) r (atExit (r .counts) m1 m2 m3) ⌝ }
+    ensures { λ r. ⌜ PartRead (readCell (now (s .entry)) k (complex (atEntry c m1 m2 m3), at)) r (atExit (r .counts) m1 m2 m3) ⌝ }
 {
     match make_form(s, k, at) {
         OperatorForm::Bad(f) => MeshRead {
@@ -57,7 +57,7 @@ fn read_cells(
     m3: &mut [i8],
 ) -> MeshRead
     requires { ⌜ Readable k (asLent c m1 m2 m3) ⌝ }
-    ensures { λ r. ⌜ Went (λ go. repeat (readCell (now (s .entry)) k) go n (complex (atEntry c m1 m2 m3), at)) r (atExit (r .counts) m1 m2 m3) ⌝ }
+    ensures { λ r. ⌜ PartRead (λ go. repeat (readCell (now (s .entry)) k) go n (complex (atEntry c m1 m2 m3), at)) r (atExit (r .counts) m1 m2 m3) ⌝ }
 {
     let mut counts = c;
     let mut place = at;
@@ -90,7 +90,7 @@ pub(crate) fn read_section(
     m3: &mut [i8],
 ) -> MeshRead
     requires { ⌜ Readable k (asLent c m1 m2 m3) ⌝ }
-    ensures { λ r. ⌜ Went (readSection (now (s .entry)) k (complex (atEntry c m1 m2 m3), at)) r (atExit (r .counts) m1 m2 m3) ⌝ }
+    ensures { λ r. ⌜ PartRead (readSection (now (s .entry)) k (complex (atEntry c m1 m2 m3), at)) r (atExit (r .counts) m1 m2 m3) ⌝ }
 {
     match byte_form(s, at, 0, 96) {
         Field::Bad(f) => MeshRead {

@@ -4,7 +4,7 @@ ghost use Prim.Native.Nat.{_+_};
 ghost use Rattle.rules.specs.Complex.{countsOf, empty};
 ghost use Rattle.rules.specs.Calls.{sized, noMesh, readCall};
 ghost use Rattle.rules.specs.Lending.{asLent, atEntry, atExit, left};
-ghost use Rattle.mesh.specs.Reading.{zeros, Long, Zeros, Sofar, Next};
+ghost use Rattle.mesh.specs.Reading.{zeros, Long, Zeros, ReadUpTo, NextSection};
 use crate::cells::read_section;
 use form::fields::byte_form;
 use form::fields::refusal_of;
@@ -29,7 +29,7 @@ fn refused(refusal: u8) -> MeshRead
 
 // The corner count.
 fn read_corners(s: &[u8]) -> MeshRead
-    ensures { λ r. ⌜ Sofar (now (s .entry)) 1 r (zeros (r .counts)) ⌝ }
+    ensures { λ r. ⌜ ReadUpTo (now (s .entry)) 1 r (zeros (r .counts)) ⌝ }
 {
     match byte_form(s, 0, 0, 96) {
         Field::Bad(f) => refused(refusal_of(f)),
@@ -55,8 +55,8 @@ fn read_next(
     m2: &mut [i8],
     m3: &mut [i8],
 ) -> MeshRead
-    requires { ⌜ Next (now s) k before (asLent (before .counts) m1 m2 m3) ⌝ }
-    ensures { λ r. ⌜ Sofar (now (s .entry)) (k + 1) r (atExit (r .counts) m1 m2 m3) ⌝ }
+    requires { ⌜ NextSection (now s) k before (asLent (before .counts) m1 m2 m3) ⌝ }
+    ensures { λ r. ⌜ ReadUpTo (now (s .entry)) (k + 1) r (atExit (r .counts) m1 m2 m3) ⌝ }
 {
     if before.refusal != ACCEPTED {
         return before;
@@ -68,7 +68,7 @@ fn read_next(
 // All of the mesh, into matrices of zeros.
 fn read_sections(s: &[u8], m1: &mut [i8], m2: &mut [i8], m3: &mut [i8]) -> MeshRead
     requires { ⌜ Zeros (now m1) (now m2) (now m3) ⌝ }
-    ensures { λ r. ⌜ Sofar (now (s .entry)) 4 r (atExit (r .counts) m1 m2 m3) ⌝ }
+    ensures { λ r. ⌜ ReadUpTo (now (s .entry)) 4 r (atExit (r .counts) m1 m2 m3) ⌝ }
 {
     let corners = read_corners(s);
     let seams = read_next(corners, 1, s, m1, m2, m3);

@@ -17,12 +17,12 @@ abbrev pub edgeOf : List ℤ → Chain → List ℤ
 edgeOf low w = table 96 (edge low w)
 
 -- a matrix and a chain of its cells, for a panel or block; no matrix is below a seam's
-pub record Under (dim : ℕ) (low taken : List ℤ) : Type 0 where
+pub record BoundaryNeeds (dim : ℕ) (low taken : List ℤ) : Type 0 where
   pub least : 1 ≤ dim
   pub most : dim ≤ 3
   pub summands : 2 ≤ dim → Summands low 96 taken 0
 
 -- whether a dividing cell can have the boundary of w, and that boundary
-pub record Bounded (dim : ℕ) (low : List ℤ) (w : Chain) (fine : Bool) (found : List ℤ) : Type 0 where
+pub record BoundaryFound (dim : ℕ) (low : List ℤ) (w : Chain) (fine : Bool) (found : List ℤ) : Type 0 where
   pub fine-is : fine ≡ divides (pred dim) (edge low w)
   pub found-is : 2 ≤ dim → found ≡ edgeOf low w

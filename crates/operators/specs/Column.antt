@@ -23,7 +23,7 @@ pub record IsFace (F : Faces) (l : ℕ) (f : Face) : Type 0 where
   pub sign : f .sign ≡ F .sign l
 
 -- the column has room for one unit more at i
-pub record Addable (column : List ℤ) (i : ℕ) (z : ℤ) : Type 0 where
+pub record AddableAt (column : List ℤ) (i : ℕ) (z : ℤ) : Type 0 where
   pub inside : i < length column
   pub small : natAbs (getD column i (pos 0)) ≤ 96
   pub unit : natAbs z ≤ 1

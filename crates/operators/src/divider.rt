@@ -6,7 +6,7 @@ ghost use Rattle.rules.specs.Good.{oneEach};
 ghost use Rattle.rules.specs.Operators.{proper};
 ghost use Rattle.rules.specs.Calls.{coefficients};
 ghost use Rattle.grid.specs.Grid.{Blank};
-ghost use Rattle.operators.specs.Boundary.{Under, Bounded};
+ghost use Rattle.operators.specs.Boundary.{BoundaryNeeds, BoundaryFound};
 use grid::runs::are_units;
 use grid::runs::are_zero;
 use grid::runs::times_of;
@@ -38,9 +38,9 @@ fn is_seam(v: &[i8]) -> bool
 
 // The boundary of what is taken of a cell of dimension dim, and whether a dividing cell can have it. A corner has none.
 pub(crate) fn take_boundary(dim: u8, low: &[i8], taken: &[i8], edge: &mut [i8]) -> bool
-    requires { ⌜ Under dim (now low) (now taken) ⌝ }
+    requires { ⌜ BoundaryNeeds dim (now low) (now taken) ⌝ }
     requires { ⌜ Blank (now edge) ⌝ }
-    ensures { λ r. ⌜ Bounded dim (now (low .entry)) (coefficients (now (taken .entry))) r (now (edge .exit)) ⌝ }
+    ensures { λ r. ⌜ BoundaryFound dim (now (low .entry)) (coefficients (now (taken .entry))) r (now (edge .exit)) ⌝ }
 {
     match dim {
         1 => true,

@@ -4,7 +4,7 @@ ghost use lib.ListN.{getD, set};
 ghost use lib.IntN.{pos, _+ℤ_};
 ghost use Rattle.rules.specs.Form.{signOf, madeOf};
 ghost use Rattle.operators.specs.Held.{MakeForm};
-ghost use Rattle.operators.specs.Column.{FaceForm, IsFace, Addable, Drawable, Drawn};
+ghost use Rattle.operators.specs.Column.{FaceForm, IsFace, AddableAt, Drawable, Drawn};
 
 // One listed face.
 pub struct Face {
@@ -56,7 +56,7 @@ fn face_at(s: &[u8], dim: u8, list: usize, l: usize) -> Face
 
 // z is added to the column at i.
 fn add_at(column: &mut [i8], i: usize, z: i8)
-    requires { ⌜ Addable (now column) i z ⌝ }
+    requires { ⌜ AddableAt (now column) i z ⌝ }
     ensures { λ _. ⌜ now (column .exit) ≡ set (now (column .entry)) i (getD (now (column .entry)) i (pos 0) +ℤ z) ⌝ }
 {
     column[i] = column[i] + z;

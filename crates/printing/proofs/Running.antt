@@ -44,7 +44,7 @@ hasRun l z =
     lent (record { mesh = accepted; ran = r .ran; refusal = r .refusal; counts = r .counts; euler = z .number }) (scriptHeld l)
 
 -- a mesh that was taken: a good pattern is stored, and what is answered is what the script after it leads to
-pub record Taken (s : List ℕ) (l : Lent MeshRead) (m : Lent InputRun) : Type 0 where
+pub record MeshTaken (s : List ℕ) (l : Lent MeshRead) (m : Lent InputRun) : Type 0 where
   pub read : Complex
   pub good : Good read
   pub inside : l .answer .used ≤ length s
@@ -59,11 +59,11 @@ module _ (s : List ℕ) (p : Pattern) (long : sized p ≡ true) {l : Lent MeshRe
       (mesh-each (λ (l : Lent MeshRead) (m : Lent InputRun). l .answer .refusal ≢ accepted → notRun l ≡ m) s
       (λ r n k. refl) (λ X used e k. absurd (k refl)))
 
-  pub mesh-taken : l .answer .refusal ≡ accepted → Taken s l (runInput s)
+  pub mesh-taken : l .answer .refusal ≡ accepted → MeshTaken s l (runInput s)
   unfolding readCall runInput
   mesh-taken =
       rw (read, long)
-      (mesh-each (λ (l : Lent MeshRead) (m : Lent InputRun). l .answer .refusal ≡ accepted → Taken s l m) s
+      (mesh-each (λ (l : Lent MeshRead) (m : Lent InputRun). l .answer .refusal ≡ accepted → MeshTaken s l m) s
       (λ r n k. absurd (n k))
       (λ X used e k. record { read = X; good = read-good s X used e; inside = written-read s e .0; held = refl; then = refl }))
 
@@ -84,7 +84,7 @@ unfolding eulerCall
 euler-ended {X} G = rw (sized-is (stored-sized X), complex-stored G, good-is G)
 
 -- a mesh that was taken, and its script run
-module _ {s : List ℕ} {l : Lent MeshRead} {m : Lent InputRun} (T : Taken s l m) where
+module _ {s : List ℕ} {l : Lent MeshRead} {m : Lent InputRun} (T : MeshTaken s l m) where
   pub script-ran : {d : Lent ScriptRun} {z : EulerNumber} → d ≡ runCall (meshHeld l) (drop (l .answer .used) s) → z ≡ eulerCall (scriptHeld d) →
       hasRun d z ≡ m
   script-ran {d} {z} e f =

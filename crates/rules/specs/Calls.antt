@@ -13,7 +13,7 @@ use Rattle.rules.specs.declared.answers.Applied.{Applied}
 use Rattle.rules.specs.declared.answers.ScriptRun.{ScriptRun}
 use Rattle.rules.specs.declared.operator.Operator.{Operator}
 use Rattle.rules.specs.Refusals.{accepted, wrongLength, notGood, wrongForm, shortOutput, wrongChain}
-use Rattle.rules.specs.Complex.{Pattern, Complex, Chain, empty, complex, countsOf, stored, euler}
+use Rattle.rules.specs.Complex.{Pattern, pattern, Complex, Chain, empty, complex, countsOf, stored, euler}
 use Rattle.rules.specs.Good.{isGood}
 use Rattle.rules.specs.Edits.{boundary}
 use Rattle.rules.specs.Operators.{Outcome, step, afterStep}
@@ -83,6 +83,10 @@ applied p o =
     afterStep o (λ r. lent (record { counts = p .counts; refusal = r }) p) λ Y.
     lent (record { counts = countsOf Y; refusal = accepted }) (stored Y)
 
+-- the pattern that an operator leaves
+abbrev pub operatorLeft : Lent Applied → Pattern
+operatorLeft l = pattern (l .answer .counts) (l .m1) (l .m2) (l .m3)
+
 -- "A single operator call takes the bytes of one operator, without base, count or refusal 13."
 unfoldable pub applyCall : Pattern → List ℕ → Lent Applied
 applyCall p s =
@@ -96,6 +100,10 @@ runCall p s =
     onGood (sized p && sizedScript s) (complex p) (λ r. lent (record { counts = p .counts; ran = 0; refusal = r }) p) λ X.
     let e = runScript s X in
     lent (record { counts = countsOf (e .now); ran = e .ran; refusal = e .refusal }) (stored (e .now))
+
+-- and the one that a script leaves
+abbrev pub scriptLeft : Lent ScriptRun → Pattern
+scriptLeft l = pattern (l .answer .counts) (l .m1) (l .m2) (l .m3)
 
 -- "A refused chain call leaves its output unchanged; an accepted one sets all 96."
 pub record Given : Type 0 where

@@ -37,8 +37,8 @@ outputOf c = linesOf (c .lines)
 abbrev T : String
 T = "03 03 00 02 00 01 01 02 01 03 00 02 01 01 02 01 00"
 
-abbrev pub table : List Case
-table =
+abbrev pub caseTable : List Case
+caseTable =
     -- 1. Empty pattern: bytes 00 00 00 00, Euler 0.
     row "00 00 00 00" "04 00 00 00 00 00 00" ("ran 0 refusal 0" ∷ "cells 0 0 0 0" ∷ "euler 0" ∷ [])
     -- 2. T is good, Euler 1.

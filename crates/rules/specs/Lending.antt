@@ -8,23 +8,23 @@ use Rattle.rules.specs.Complex.{Pattern, pattern}
 use Rattle.rules.specs.Calls.{Lent}
 
 -- a lent matrix, as a `requires` names it; and as an `ensures` does, at entry and at exit
-abbrev pub Matrix : Type 0
-Matrix = RefT (List ℤ)
+abbrev pub LentMatrix : Type 0
+LentMatrix = RefT (List ℤ)
 
-abbrev pub Matrices : Type 0
-Matrices = Both Matrix Matrix
+abbrev pub LentMatrices : Type 0
+LentMatrices = Both LentMatrix LentMatrix
 
 -- the lent pattern, in a `requires`
-abbrev pub asLent : Counts → Matrix → Matrix → Matrix → Pattern
+abbrev pub asLent : Counts → LentMatrix → LentMatrix → LentMatrix → Pattern
 asLent c m1 m2 m3 = pattern c (now m1) (now m2) (now m3)
 
 -- the lent pattern at entry and at exit, in an `ensures`
-abbrev pub atEntry : Counts → Matrices → Matrices → Matrices → Pattern
+abbrev pub atEntry : Counts → LentMatrices → LentMatrices → LentMatrices → Pattern
 atEntry c m1 m2 m3 = pattern c (now (m1 .entry)) (now (m2 .entry)) (now (m3 .entry))
 
-abbrev pub atExit : Counts → Matrices → Matrices → Matrices → Pattern
+abbrev pub atExit : Counts → LentMatrices → LentMatrices → LentMatrices → Pattern
 atExit c m1 m2 m3 = pattern c (now (m1 .exit)) (now (m2 .exit)) (now (m3 .exit))
 
 -- an answer, and the matrices at exit
-abbrev pub left : {A : Type 0} → A → Matrices → Matrices → Matrices → Lent A
+abbrev pub left : {A : Type 0} → A → LentMatrices → LentMatrices → LentMatrices → Lent A
 left r m1 m2 m3 = record { answer = r; m1 = now (m1 .exit); m2 = now (m2 .exit); m3 = now (m3 .exit) }

@@ -7,7 +7,7 @@ use Rattle.rules.specs.Complex.{Pattern}
 use Rattle.rules.specs.Lending.{asLent}
 use Rattle.good.specs.Tested.{tested}
 use Rattle.engine.proofs.FirstTests.{held}
-use Rattle.engine.proofs.Answers.{lone-read, apply-refused, apply-faulty, apply-done}
+use Rattle.engine.proofs.Answers.{lone-read, apply-not-good, apply-faulty, apply-done}
 use Rattle.engine.proofs.apply_operator.Statement.{statement}
 use Rattle.engine.proofs.apply_operator.Tie as tie
 
@@ -20,7 +20,7 @@ passed : (c : tie.Else1) → tested (entry (c .before .before .before .before .b
 passed c = sym (c .before .refusal-of-pattern .ensures) ∙ c .if1 .left
 
 not-good : tie.Need-returns
-not-good c = apply-refused _ _ (c .before .refusal-of-pattern .ensures) (c .if1 .taken)
+not-good c = apply-not-good _ _ (c .before .refusal-of-pattern .ensures) (c .if1 .taken)
 
 apply-requires : tie.Need-apply-requires
 apply-requires c κs =

@@ -9,7 +9,7 @@ use Rattle.rules.specs.Complex.{Pattern}
 use Rattle.rules.specs.Lending.{asLent}
 use Rattle.good.specs.Tested.{tested}
 use Rattle.engine.proofs.FirstTests.{held}
-use Rattle.engine.proofs.ScriptAnswers.{script-says, too-long, run-refused, run-faulty, run-stale, run-done}
+use Rattle.engine.proofs.ScriptAnswers.{script-says, too-long, run-not-good, run-faulty, run-stale, run-done}
 use Rattle.engine.proofs.run_script.Statement.{statement}
 use Rattle.engine.proofs.run_script.Tie as tie
 
@@ -36,7 +36,7 @@ script-long c = rw (c .idle .ensures) (too-long _ _ (c .before .if1 .taken))
 not-good : tie.Need-returns-2
 not-good c =
     let test = c .before .before in
-    rw (c .idle2 .ensures) (run-refused _ _ (test .before .before .before .before .if1 .left) (test .refusal-of-pattern .ensures) (c .before .if2 .taken))
+    rw (c .idle2 .ensures) (run-not-good _ _ (test .before .before .before .before .if1 .left) (test .refusal-of-pattern .ensures) (c .before .if2 .taken))
 
 same-base-requires : tie.Need-same-base-requires
 same-base-requires c κs =

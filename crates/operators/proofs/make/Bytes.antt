@@ -37,8 +37,8 @@ list-inside s k list h e =
     (a .0, list-says true s list (a .0) (a .1))
 
 module _ {s : List ℕ} {dim list : ℕ} (M : MakeForm s dim list) where
-  pub formed : Formed s (Operator.Make dim list)
-  formed = made s list dim (M .most) (M .form) .1
+  pub make-formed : Formed s (Operator.Make dim list)
+  make-formed = made s list dim (M .most) (M .form) .1
 
   pub seam-there : dim ≡ 1 → list + 1 < length s
   seam-there e = seam-inside s list (rw e at (M .form))

@@ -107,14 +107,6 @@ module _ (p : Pattern) (H : Held p) (column : List ℤ) where
   unfolding appended make at3 over withColumn put
   append-3 e q = rw (e, closed-next 1) (placed _ _ _ (λ m. pattern (p .counts) (p .m1) (p .m2) m) q (rw (← same1, ← same2)) refl)
 
--- a count of the complex is a stored one
-pub count-is : (p : Pattern) (q : ℕ) → q ≤ 3 → complex p q .n ≡ count p q
-count-is p zero h = refl
-count-is p (suc zero) h = refl
-count-is p (suc (suc zero)) h = refl
-count-is p (suc (suc (suc zero))) h = refl
-count-is p (suc (suc (suc (suc q)))) h = absurd (omega arith)
-
 -- what the tests of each dimension need
 module _ {k : ℕ} {column : List ℤ} {p : Pattern} (A : Appendable k column p) where
   pub seam-fits : k ≡ 1 → Storable column (p .m1) (count p 1)
@@ -163,10 +155,10 @@ module _ (p : Pattern) (k : ℕ) (F : Faces) where
           (λ t. no-eq (ap (λ l. l .answer) (rw t at e)))
           (λ t. rw (a, lt-ltb (complex p k .n) 96 h, ← w, t) (ap (answering (answer (p .counts) notClosed)) (rw t at e)))
 
-      pub made : Sized p → k ≤ 3 → lent true (pattern (p .counts) m1 m2 m3) ≡ appended k v p
+      pub made-is : Sized p → k ≤ 3 → lent true (pattern (p .counts) m1 m2 m3) ≡ appended k v p
           → lent (answer (grownAt (p .counts) k) accepted) (pattern (p .counts) m1 m2 m3) ≡ applied p (makeStep k F (complex p))
       unfolding makeStep appended
-      made S d e = bool-or (closed k v (complex p))
+      made-is S d e = bool-or (closed k v (complex p))
           (λ t.
           let c : grownAt (p .counts) k ≡ countsOf (layers (make k v (complex p))) = grown-are v (p .m1) (p .m2) (p .m3) (p .counts .n) (S .four) k d in
           rw (a, lt-ltb (complex p k .n) 96 h, ← w, t, c) (ap (answering (answer (countsOf (layers (make k v (complex p)))) accepted)) (rw t at e)))

@@ -71,8 +71,8 @@ module _ {least most : ℕ} {p : Pattern} {dim cell : ℕ} (h : Cell least most 
   unit3 = record { size = h .held .sized .size3; inside = cell-low; units = record { unit = h .held .good .units 3 } }
 
 -- where only the lengths matter
-pub line : {m : List ℤ} {k : ℕ} → UnitLine m k → Line m k
-line h = record { size = h .size; inside = h .inside }
+pub unit-line : {m : List ℤ} {k : ℕ} → UnitLine m k → Line m k
+unit-line h = record { size = h .size; inside = h .inside }
 
 -- the outcome o is a refusal by r, which changes nothing
 abbrev pub Refuses : Pattern → ℕ → Outcome → Type 0

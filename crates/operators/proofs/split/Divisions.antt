@@ -21,7 +21,7 @@ use Rattle.rules.specs.Complex.{Chain, bare, layer}
 use Rattle.rules.specs.Edits.{put, boundary, part, divider, halves, repeated}
 use Rattle.rules.specs.Operators.{divides}
 use Rattle.rules.specs.Calls.{coefficients}
-use Rattle.operators.specs.Boundary.{edge, Bounded, Under}
+use Rattle.operators.specs.Boundary.{edge, BoundaryFound, BoundaryNeeds}
 use Rattle.operators.specs.Part.{Takeable, Taken}
 use Rattle.operators.specs.Split.{Halvable, Halved, Dividable, Repeatable, Splittable, around, divided}
 use Rattle.operators.proofs.chosen.Lists.{holds}
@@ -44,7 +44,7 @@ module _ {dim cell t new : ℕ} {low mid high : List ℤ} (S : Splittable dim ce
         rw (holds (part p (column mid cell)) (T .taken-is) i h)
         (by-bool (p i) (λ t. natAbs (cond t (entries mid i cell) (pos 0)) ≤ 1) (λ _. S .here .units .unit i cell) (λ _. omega arith))
 
-    pub part-under : Under dim low taken
+    pub part-under : BoundaryNeeds dim low taken
     part-under = record { least = S .least; most = S .most; summands = summands }
       where
         summands : 2 ≤ dim → Summands low 96 taken 0
@@ -59,7 +59,7 @@ module _ {dim cell t new : ℕ} {low mid high : List ℤ} (S : Splittable dim ce
     pub two-halves : Halvable cell t new taken mid
     two-halves = record { size = S .here .size; long = taken-long; cell-in = S .cell-in; room = S .room; room-below = S .room-below; free = S .free }
 
-    pub new-column : {sound : Bool} {found : List ℤ} → Bounded dim low (coefficients taken) sound found → Dividable dim low t found
+    pub new-column : {sound : Bool} {found : List ℤ} → BoundaryFound dim low (coefficients taken) sound found → Dividable dim low t found
     new-column B = record {
       least = S .least;
       line = λ d. record { size = S .below d .size; inside = S .room-below; long = ap length (B .found-is d) ∙ length-table 0 96 _ };
@@ -75,7 +75,7 @@ module _ (dim cell t new : ℕ) (p : ℕ → Bool) (low mid high : List ℤ) {fi
   edge-taken : edge low (coefficients taken) ≡ edge low (part p (column mid cell))
   edge-taken = fun-ext (λ r. dot-same 96 (λ j h. refl) (λ j h. holds (part p (column mid cell)) (T .taken-is) j h))
 
-  module _ {sound : Bool} {found : List ℤ} (h : not fine ≡ false) (B : Bounded dim low (coefficients taken) sound found) where
+  module _ {sound : Bool} {found : List ℤ} (h : not fine ≡ false) (B : BoundaryFound dim low (coefficients taken) sound found) where
     sound-is : sound ≡ divides (pred dim) (edge low (part p (column mid cell)))
     sound-is = B .fine-is ∙ ap (divides (pred dim)) edge-taken
 

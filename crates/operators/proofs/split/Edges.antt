@@ -18,7 +18,7 @@ use Rattle.rules.specs.Operators.{proper, divides}
 use Rattle.rules.specs.Calls.{coefficients}
 use Rattle.rules.proofs.layers.Judged.{one-each-true, has-face}
 use Rattle.grid.specs.Grid.{run}
-use Rattle.operators.specs.Boundary.{Bounded, edge, edgeOf}
+use Rattle.operators.specs.Boundary.{BoundaryFound, edge, edgeOf}
 use Rattle.operators.proofs.chosen.Lists.{holds, from-start}
 
 -- one +1 is a face
@@ -75,14 +75,14 @@ module _ (f : Chain) (found : List ℤ) (e : found ≡ table 96 f) where
 
 -- the dividing cell is a corner, a seam, a panel
 module _ {dim : ℕ} {low : List ℤ} {w : Chain} {r : Bool} {found : List ℤ} where
-  pub corner-bounded : dim ≡ 1 → r ≡ true → Bounded dim low w r found
+  pub corner-bounded : dim ≡ 1 → r ≡ true → BoundaryFound dim low w r found
   unfolding divides
   corner-bounded d e = record { fine-is = rw d e; found-is = λ h. absurd (omega arith) }
 
-  pub seam-bounded : dim ≡ 2 → found ≡ edgeOf low w → r ≡ proper (coefficients found) && oneEach (coefficients found) → Bounded dim low w r found
+  pub seam-bounded : dim ≡ 2 → found ≡ edgeOf low w → r ≡ proper (coefficients found) && oneEach (coefficients found) → BoundaryFound dim low w r found
   unfolding divides
   seam-bounded d f e = record { fine-is = rw d (e ∙ ap₂ _&&_ (held-proper (edge low w) found f) (held-each (edge low w) found f)); found-is = λ _. f }
 
-  pub panel-bounded : dim ≡ 3 → found ≡ edgeOf low w → r ≡ proper (coefficients found) → Bounded dim low w r found
+  pub panel-bounded : dim ≡ 3 → found ≡ edgeOf low w → r ≡ proper (coefficients found) → BoundaryFound dim low w r found
   unfolding divides
   panel-bounded d f e = record { fine-is = rw d (e ∙ held-proper (edge low w) found f); found-is = λ _. f }

@@ -133,13 +133,13 @@ module _ {p : Pattern} {s : List ℕ} {k cell list : ℕ} (H : Held p) (S : Spli
             ap (λ (c : Counts). lent (record { counts = c; refusal = n }) (pattern c m1 m2 m3)) q
             ∙ ap (counted (p .counts) more) e ∙ answer-is
 
-        pub answer-refused : n ≢ accepted
+        pub split-answer-refused : n ≢ accepted
             → lent (record { counts = p .counts; refusal = n }) (pattern (p .counts) m1 m2 m3) ≡ applied p (splitStep k cell (chosenOf s k list) (complex p))
-        answer-refused h = answer (sym (cond-false more (p .counts) (ne-eqb n accepted h)))
+        split-answer-refused h = answer (sym (cond-false more (p .counts) (ne-eqb n accepted h)))
 
-        pub answer-accepted : {c : Counts} → n ≡ accepted → c ≡ more
+        pub split-answer-accepted : {c : Counts} → n ≡ accepted → c ≡ more
             → lent (record { counts = c; refusal = n }) (pattern c m1 m2 m3) ≡ applied p (splitStep k cell (chosenOf s k list) (complex p))
-        answer-accepted h q = answer (q ∙ sym (cond-true more (p .counts) (eq-eqb n accepted h)))
+        split-answer-accepted h q = answer (q ∙ sym (cond-true more (p .counts) (eq-eqb n accepted h)))
 
 -- the second count is still the old one when it grows
 pub still-room : (c : Counts) (k : ℕ) → 1 ≤ k → countOf c k < 96 → countOf (grownAt c (k - 1)) k < 96

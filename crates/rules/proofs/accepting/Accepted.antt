@@ -15,10 +15,10 @@ use Rattle.rules.specs.Good.{Good, allZero, closes}
 use Rattle.rules.specs.Edits.{Step, make, kill, split, merge, flip}
 use Rattle.rules.specs.Operators.{Faces, Outcome, edited, removed, chainOf, closed, chosen, makeStep, killStep, splitStep, mergeStep, flipStep}
 use Rattle.rules.proofs.branches.Branches.{refused-edited, refused-removed}
-use Rattle.rules.proofs.layers.Judged.{all-zero-at, some-face, proper-units, proper-face, closes-at}
+use Rattle.rules.proofs.layers.Judged.{all-zero-at, some-entry, proper-units, proper-face, closes-at}
 use Rattle.rules.proofs.layers.Frame.{Within, face-below, within-rows, within-columns}
 use Rattle.rules.proofs.layers.Seams.{Ends, ends-of, one-each-of}
-use Rattle.rules.proofs.bytes.Faces.{TailHead, Given, all-below, chain-within, seam-none, seam-ends, given-none, given-units}
+use Rattle.rules.proofs.bytes.Faces.{TailHead, GivenFaces, all-below, faces-within, seam-none, seam-ends, given-none, given-units}
 use Rattle.rules.proofs.accepting.Sides.{Sides, sides-of, high-face, higher-is, lower-is}
 use Rattle.rules.proofs.accepting.Passed.{MakeTests, make-tests, kill-tests, split-tests, MergeTests, merge-tests, flip-tests}
 use Rattle.rules.proofs.accepting.Allowed.{CanMake, CanKill, CanSplit, CanMerge}
@@ -32,10 +32,10 @@ closed-says q v X e =
 -- a cell that is made with faces
 module _ {F : Faces} {X : Complex} {x : Outcome} (q : ℕ) (t : MakeTests (suc q) F X x) where
   made-some : (i : ℕ) × (i < 96) × (chainOf F i ≢ pos 0)
-  made-some = some-face (chainOf F) (closed-says q (chainOf F) X (t .whole) .0)
+  made-some = some-entry (chainOf F) (closed-says q (chainOf F) X (t .whole) .0)
 
   made-within : Within (X q .n) (chainOf F)
-  made-within = chain-within F (X q .n) (t .below)
+  made-within = faces-within F (X q .n) (t .below)
 
   pub made-below : X q .n ≤ 96 → (l : ℕ) → l < F .n → F .number l < 96
   made-below few l h = omega (arith, all-below F (X q .n) (t .below) l h)
@@ -57,7 +57,7 @@ module _ {X : Complex} (G : Good X) where
       (closes-at v (X p .n) (X (suc p)) (G .few (suc p)) w e r)
       (λ h. dot-0-l 96 _ (λ i l. G .rows p r i h))
 
-  pub make-accepted : (k : ℕ) (F : Faces) {S : ℕ → Step} → k ≤ 3 → Given k F → makeStep k F X ≡ edited S → CanMake k (chainOf F) X × (S ≡ make k (chainOf F) X)
+  pub make-accepted : (k : ℕ) (F : Faces) {S : ℕ → Step} → k ≤ 3 → GivenFaces k F → makeStep k F X ≡ edited S → CanMake k (chainOf F) X × (S ≡ make k (chainOf F) X)
   make-accepted k F {S} d g e = (
     record {
       dim = d;

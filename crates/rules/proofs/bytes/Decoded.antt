@@ -15,7 +15,7 @@ use Rattle.rules.specs.declared.form.OperatorForm.{OperatorForm}
 use Rattle.rules.specs.declared.operator.Operator.{Operator}
 use Rattle.rules.specs.Form.{within, codeOf, listAt, makeAt, splitAt, cellAt, operandsAt, operatorAt, signOf, madeOf}
 use Rattle.rules.proofs.bytes.Fields.{bad-operator, after-got, byte-after}
-use Rattle.rules.proofs.bytes.Faces.{Distinct, Given}
+use Rattle.rules.proofs.bytes.Faces.{Distinct, GivenFaces}
 use Rattle.rules.proofs.bytes.Listed.{Listed, list-says}
 
 -- the faces of a cell that is made
@@ -32,11 +32,11 @@ module _ (s : List ℕ) (at : ℕ) where
     signs = λ l h. sign-unit (getD s (at + 2 + 2 * l) 0);
   }
 
-  corner-given : Given 0 (madeOf s 0 at)
+  corner-given : GivenFaces 0 (madeOf s 0 at)
   unfolding madeOf
   corner-given = record { corner = λ e. refl; seam = λ e. absurd (omega arith); signed = λ h. absurd (omega arith) }
 
-  seam-given : Given 1 (madeOf s 1 at)
+  seam-given : GivenFaces 1 (madeOf s 1 at)
   unfolding madeOf
   seam-given = record {
     corner = λ e. absurd (omega arith);
@@ -44,12 +44,12 @@ module _ (s : List ℕ) (at : ℕ) where
     signed = λ h. absurd (omega arith);
   }
 
-  listed-given : (q : ℕ) {next : ℕ} → Listed true s at next → Given (suc (suc q)) (madeOf s (suc (suc q)) at)
+  listed-given : (q : ℕ) {next : ℕ} → Listed true s at next → GivenFaces (suc (suc q)) (madeOf s (suc (suc q)) at)
   listed-given q L = record { corner = λ e. absurd (omega arith); seam = λ e. absurd (omega arith); signed = λ h. listed-distinct q L }
 
 -- what a decoded operator says of its bytes: its dimension, and the faces of a cell that is made
 abbrev pub Formed : List ℕ → Operator → Type 0
-Formed s (Operator.Make k list) = (k ≤ 3) × Given k (madeOf s k list)
+Formed s (Operator.Make k list) = (k ≤ 3) × GivenFaces k (madeOf s k list)
 Formed s (Operator.Kill k c) = k ≤ 3
 Formed s (Operator.Split k c list) = (1 ≤ k) × (k ≤ 3)
 Formed s (Operator.Merge k t) = k ≤ 2

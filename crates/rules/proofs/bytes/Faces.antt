@@ -31,7 +31,7 @@ pub record TailHead (F : Faces) : Type 0 where
   pub head : F .sign 1 ≡ pos 1
 
 -- the faces that a cell of dimension k is made with
-pub record Given (k : ℕ) (F : Faces) : Type 0 where
+pub record GivenFaces (k : ℕ) (F : Faces) : Type 0 where
   pub corner : k ≡ 0 → F .n ≡ 0
   pub seam : k ≡ 1 → TailHead F
   pub signed : 2 ≤ k → Distinct F
@@ -46,8 +46,8 @@ module _ (F : Faces) where
   unfolding chainOf
   chain-off i off = sum-all-0 (F .n) (λ l h. rw (δ-no (F .number l) i (λ e. off l h (sym e))) (*ℤ-zero (F .sign l)))
 
-  pub chain-within : (n : ℕ) → allBelow n F ≡ true → Within n (chainOf F)
-  chain-within n e i h = chain-off i (λ l k q. omega (arith, all-below n e l k))
+  pub faces-within : (n : ℕ) → allBelow n F ≡ true → Within n (chainOf F)
+  faces-within n e i h = chain-off i (λ l k q. omega (arith, all-below n e l k))
 
   -- a cell is one of the listed, or none
   listed-or : (i : ℕ) {A : Type 0} → ((l : ℕ) → l < F .n → F .number l ≡ i → A) → (((l : ℕ) → l < F .n → F .number l ≢ i) → A) → A
@@ -106,7 +106,7 @@ module _ (F : Faces) where
         rw (seam-off i t h) (omega arith)
 
   -- what they have in common, whatever the dimension
-  module _ {k : ℕ} (g : Given k F) where
+  module _ {k : ℕ} (g : GivenFaces k F) where
     pub given-none : k ≡ 0 → (i : ℕ) → chainOf F i ≡ pos 0
     given-none e i = let n : F .n ≡ 0 = g .corner e in chain-off i (λ l h. absurd (omega arith))
 

@@ -9,7 +9,7 @@ use Rattle.rules.proofs.layers.Changes.{at3-0, at3-1, at3-2, at3-no, at
 use Rattle.rules.proofs.layers.Frame.{Fit, Frame}
 
 -- A, B and U in place of the layers k, k + 1 and k + 2
-pub record Fits (k : ℕ) (A B U : Layer) (X : Complex) : Type 0 where
+pub record LayersFit (k : ℕ) (A B U : Layer) (X : Complex) : Type 0 where
   pub few : A .n ≤ 96
   pub ground : k ≡ 0 → (i j : ℕ) → A .d i j ≡ pos 0
   pub below : (q : ℕ) → suc q ≡ k → Fit (X q) A
@@ -21,7 +21,7 @@ pub record Fits (k : ℕ) (A B U : Layer) (X : Complex) : Type 0 where
   pub top-over : 3 < suc (suc k) → U .n ≡ 0
 
 module _ {X : Complex} {k : ℕ} {A B U : Layer} where
-  pub fitted : Frame X → Fits k A B U X → Frame (at3 k X A B U)
+  pub fitted : Frame X → LayersFit k A B U X → Frame (at3 k X A B U)
   fitted F G = record {
     few = first (λ L. L .n ≤ 96) (F .few) (λ _. G .few);
     ground = first (λ L. (i j : ℕ) → L .d i j ≡ pos 0) (F .ground) (G .ground);
@@ -37,6 +37,6 @@ layers-at3 X k x y z = fun-ext (at3-each k X (x .layer) (y .layer) (z .layer) (�
     (λ q e₀ e₁ e₂. rw (at3-no k (λ q. kept (X q)) x y z q e₀ e₁ e₂))
     (rw at3-0) (rw at3-1) (rw at3-2))
 
-pub fitted-layers : {X : Complex} {k : ℕ} (x y z : Step) → Frame X → Fits k (x .layer) (y .layer) (z .layer) X →
+pub fitted-layers : {X : Complex} {k : ℕ} (x y z : Step) → Frame X → LayersFit k (x .layer) (y .layer) (z .layer) X →
     Frame (layers (at3 k (λ q. kept (X q)) x y z))
 fitted-layers {X} {k} x y z F G = rw (layers-at3 X k x y z) (fitted F G)

@@ -33,9 +33,9 @@ module _ (v : Chain) where
   unfolding allZero
   all-zero-at e i h = zero-true (all-at 96 (λ i. isZero (v i)) e i h)
 
-  pub some-face : allZero v ≡ false → (i : ℕ) × (i < 96) × (v i ≢ pos 0)
+  pub some-entry : allZero v ≡ false → (i : ℕ) × (i < 96) × (v i ≢ pos 0)
   unfolding allZero
-  some-face e = let f = all-false 96 (λ i. isZero (v i)) e in (f .0, f .1, zero-false (f .2))
+  some-entry e = let f = all-false 96 (λ i. isZero (v i)) e in (f .0, f .1, zero-false (f .2))
 
   pub has-face : (i : ℕ) → i < 96 → v i ≢ pos 0 → allZero v ≡ false
   unfolding allZero
@@ -47,7 +47,7 @@ module _ (v : Chain) where
 
   pub proper-face : proper v ≡ true → (i : ℕ) × (i < 96) × (v i ≢ pos 0)
   unfolding proper
-  proper-face e = some-face (not-true (allZero v) (and-right (all 96 (λ i. isUnit (v i))) _ e))
+  proper-face e = some-entry (not-true (allZero v) (and-right (all 96 (λ i. isUnit (v i))) _ e))
 
   pub proper-is : ((i : ℕ) → i < 96 → natAbs (v i) ≤ 1) → (i : ℕ) → i < 96 → v i ≢ pos 0 → proper v ≡ true
   unfolding proper

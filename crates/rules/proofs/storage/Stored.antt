@@ -11,6 +11,7 @@ use lib.ListN.{length, getD}
 use Rattle.maths.specs.Tables.{Entries, tab}
 use Rattle.maths.proofs.Tables.{clip-keeps, entries-tab, tab-entries, length-tab}
 use Rattle.maths.proofs.Cases.{lt-or, and-left, and-right, and-both}
+use Rattle.rules.specs.Counts.{countOf}
 use Rattle.rules.specs.Complex.{Pattern, Sized, Complex, layer, complex, stored}
 use Rattle.rules.specs.Good.{Good}
 use Rattle.rules.specs.Calls.{sized}
@@ -36,6 +37,14 @@ module _ {X : Complex} (G : Good X) where
       at (suc (suc (suc (suc k)))) =
           let none : X (suc (suc (suc (suc k)))) .n ≡ 0 = G .top _ (omega arith) in
           same-layer (sym none) (λ i j. sym (G .columns _ i j (omega arith)))
+
+-- a count of the complex is a stored one
+pub count-is : (p : Pattern) (k : ℕ) → k ≤ 3 → complex p k .n ≡ countOf (p .counts) k
+count-is p zero h = refl
+count-is p (suc zero) h = refl
+count-is p (suc (suc zero)) h = refl
+count-is p (suc (suc (suc zero))) h = refl
+count-is p (suc (suc (suc (suc k)))) h = absurd (omega arith)
 
 -- the lists that are lent have the right lengths where the test says so, and those of every complex have
 pub sized-is : {p : Pattern} → Sized p → sized p ≡ true

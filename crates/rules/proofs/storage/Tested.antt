@@ -16,7 +16,7 @@ use Rattle.maths.proofs.Tables.{in-or-out, entries-out}
 use Rattle.rules.specs.Complex.{Pattern, Layer, Complex, bare, complex}
 use Rattle.rules.specs.Good.{Good, oneEach, allZero, inPlace, closes, isGood}
 use Rattle.rules.proofs.layers.Frame.{Fit, good-of, face-below, within-rows}
-use Rattle.rules.proofs.layers.Judged.{one-each-true, one-each-is, some-face, has-face, closes-at, closes-is}
+use Rattle.rules.proofs.layers.Judged.{one-each-true, one-each-is, some-entry, has-face, closes-at, closes-is}
 
 -- what is so of every complex that comes from lists: no faces below corners, nothing above blocks, nothing outside of 96 by 96
 pub record Bounded (X : Complex) : Type 0 where
@@ -119,7 +119,7 @@ module _ {X : Complex} (B : Bounded X) (T : Tests X) where
 
   faces-at : (k j : ℕ) → j < X (suc (suc k)) .n → (i : ℕ) × (X (suc (suc k)) .d i j ≢ pos 0)
   faces-at k j l = lt-or k 2
-      (λ h. let f = some-face (λ i. X (suc (suc k)) .d i j) (not-true _ (all-at (X (suc (suc k)) .n) _ (all-at 2 _ (T .faces) k h) j l)) in (f .0, f .2))
+      (λ h. let f = some-entry (λ i. X (suc (suc k)) .d i j) (not-true _ (all-at (X (suc (suc k)) .n) _ (all-at 2 _ (T .faces) k h) j l)) in (f .0, f .2))
       (λ h. let none : X (suc (suc k)) .n ≡ 0 = ap (λ (A : Layer). A .n) (B .above (suc (suc k)) (omega arith)) in absurd (omega arith))
 
   -- within the counts by the test, and outside because a factor is 0

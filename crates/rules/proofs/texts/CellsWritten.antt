@@ -18,7 +18,7 @@ use Rattle.rules.specs.Form.{makeAt, madeOf}
 use Rattle.rules.specs.Mesh.{Reading, faulty, refused, taken, Place, readCell, tailOf, headOf, oneFace, eachFace, writeCell}
 use Rattle.rules.proofs.bytes.Fields.{after-operator}
 use Rattle.rules.proofs.layers.Seams.{tail-is, head-is}
-use Rattle.rules.proofs.bytes.Faces.{Distinct, TailHead, Given, chain-at, chain-off}
+use Rattle.rules.proofs.bytes.Faces.{Distinct, TailHead, GivenFaces, chain-at, chain-off}
 use Rattle.rules.proofs.bytes.Listed.{Listed}
 use Rattle.rules.proofs.bytes.Decoded.{made, seam-bytes, list-bytes}
 use Rattle.rules.proofs.accepting.Passed.{MakeTests, make-tests}
@@ -70,7 +70,7 @@ module _ {s : List ℕ} {at next : ℕ} {x : Outcome} (k : ℕ) (X : Complex) (f
       rw p (byte (L .there) (sym (w .0)) (w .1))
 
 cell-text : {s : List ℕ} {at next : ℕ} {o : Operator} {x : Outcome} (k : ℕ) (X : Complex) → X k .n ≤ 96 → makeAt s (suc k) at ≡ OperatorForm.Decoded o next →
-    Given (suc k) (madeOf s (suc k) at) → MakeTests (suc k) (madeOf s (suc k) at) X x → Text s at (writeCell (suc k) (chainOf (madeOf s (suc k) at))) next
+    GivenFaces (suc k) (madeOf s (suc k) at) → MakeTests (suc k) (madeOf s (suc k) at) X x → Text s at (writeCell (suc k) (chainOf (madeOf s (suc k) at))) next
 unfolding writeCell eachFace oneFace
 cell-text zero X few e g m = seam-text X few e (g .seam refl) m
 cell-text {s} {at} (suc k) X few e g m =
@@ -84,5 +84,5 @@ module _ (go : Place → Reading) {Y : Complex} {used : ℕ} where
       let a = after-operator (makeAt s (suc k) at) no-fault e in
       let r = made s at (suc k) l (a .2) in
       let m = make-taken (λ X. go (X, a .1)) (suc k) (madeOf s (suc k) at) X (rw (r .0) at (a .3)) in
-      let g : (suc k ≤ 3) × Given (suc k) (madeOf s (suc k) at) = rw (r .0) at (r .1) in
+      let g : (suc k ≤ 3) × GivenFaces (suc k) (madeOf s (suc k) at) = rw (r .0) at (r .1) in
       (chainOf (madeOf s (suc k) at), a .1, cell-text k X few (a .2) (g .1) (m .0), m .1)

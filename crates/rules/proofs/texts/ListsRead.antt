@@ -21,7 +21,7 @@ use Rattle.rules.specs.Form.{afterEntry, entryAt, signOf}
 use Rattle.rules.specs.Mesh.{pair}
 use Rattle.rules.proofs.bytes.Fields.{byte-got}
 use Rattle.rules.proofs.bytes.Listed.{IsSign}
-use Rattle.rules.proofs.texts.Texts.{Text, ends, text-none, Two, two, divided}
+use Rattle.rules.proofs.texts.Texts.{Text, ends, text-none, Two, two, text-divided}
 use Rattle.maths.proofs.Repeat.{repeat-last}
 
 -- the number of faces below n, and their text
@@ -140,5 +140,5 @@ module _ {s : List ℕ} {at : ℕ} {v : Chain} where
   unfolding join
   below zero l u ends = none-below
   below (suc n) l u r =
-      let d = divided (faceText v n) r in
+      let d = text-divided (faceText v n) r in
       number (omega arith) (u n) (below n (omega arith) u (d .1)) (d .2)

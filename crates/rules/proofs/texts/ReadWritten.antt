@@ -10,7 +10,7 @@ use Rattle.rules.specs.Complex.{Complex}
 use Rattle.rules.specs.Good.{Good}
 use Rattle.rules.specs.Mesh.{Reading, taken, Place, readCell, readSection, readMesh, writeCell, writeSection, writeMesh}
 use Rattle.rules.proofs.bytes.Fields.{byte-got}
-use Rattle.rules.proofs.texts.Texts.{Text, ends, byte, whole, divided}
+use Rattle.rules.proofs.texts.Texts.{Text, ends, byte, whole-text, text-divided}
 use Rattle.maths.proofs.Repeat.{repeat-last}
 use Rattle.rules.proofs.texts.CellsRead.{cell-taken}
 use Rattle.rules.proofs.texts.UpTo.{upTo, up-to-few, up-to-more, up-to-next, up-to-corners, up-to-all, next-can}
@@ -22,7 +22,7 @@ module _ {X : Complex} (G : Good X) {s : List ℕ} where
   unfolding join repeat
   cells-read k zero l h ends go = refl
   cells-read {at} {next} k (suc j) l h r go =
-      let d = divided (join j (λ j. writeCell (suc k) (λ i. X (suc k) .d i j))) r in
+      let d = text-divided (join j (λ j. writeCell (suc k) (λ i. X (suc k) .d i j))) r in
       repeat-last (readCell s (suc k)) go j (upTo X (suc k) 0, at)
       ∙ cells-read k j l (omega arith) (d .1) (λ y. readCell s (suc k) y go)
       ∙ cell-taken k (up-to-few G k j) (next-can G k j l h) (d .2) go
@@ -38,10 +38,10 @@ module _ {X : Complex} (G : Good X) {s : List ℕ} where
   mesh-read : {next : ℕ} → Text s 0 (writeMesh X) next → readMesh s ≡ taken X next
   unfolding readMesh writeMesh
   mesh-read {next} (byte h e r) =
-      let a = divided (writeSection 1 X) r in
-      let b = divided (writeSection 2 X) (a .2) in
+      let a = text-divided (writeSection 1 X) r in
+      let b = text-divided (writeSection 2 X) (a .2) in
       rw (byte-got s 0 0 96 (X 0 .n) (record { there = h; is = sym e; least = omega arith; most = G .few 0 }), up-to-corners G)
       (section-read 0 (omega arith) (a .1) _ ∙ section-read 1 (omega arith) (b .1) _ ∙ section-read 2 (omega arith) (b .2) _ ∙ ap (λ Y. taken Y next) (up-to-all G))
 
 pub read-written : {X : Complex} → Good X → (rest : List ℕ) → readMesh (writeMesh X ++ rest) ≡ taken X (length (writeMesh X))
-read-written {X} G rest = mesh-read G (whole (writeMesh X) rest)
+read-written {X} G rest = mesh-read G (whole-text (writeMesh X) rest)

@@ -27,9 +27,9 @@ moved {s} x (byte {at = at} {next = next} {t = t} h e r) =
     let m : Text (x ∷ s) (suc at + 1) t (suc next) = rw (add-one, ← add-one at) (moved x r) in
     byte l e m
 
-pub whole : (t rest : List ℕ) → Text (t ++ rest) 0 t (length t)
-whole [] rest = ends
-whole (x ∷ t) rest = let l : 0 < length (x ∷ (t ++ rest)) = omega arith in byte l refl (moved x (whole t rest))
+pub whole-text : (t rest : List ℕ) → Text (t ++ rest) 0 t (length t)
+whole-text [] rest = ends
+whole-text (x ∷ t) rest = let l : 0 < length (x ∷ (t ++ rest)) = omega arith in byte l refl (moved x (whole-text t rest))
 
 module _ {s : List ℕ} where
   pub text-none : {at next : ℕ} → Text s at [] next → next ≡ at
@@ -62,6 +62,6 @@ module _ {s : List ℕ} where
   joined ends r = r
   joined (byte h e l) r = byte h e (joined l r)
 
-  pub divided : {at next : ℕ} (t : List ℕ) {u : List ℕ} → Text s at (t ++ u) next → (mid : ℕ) × Text s at t mid × Text s mid u next
-  divided {at} [] r = (at, ends, r)
-  divided (x ∷ t) (byte h e r) = let d = divided t r in (d .0, byte h e (d .1), d .2)
+  pub text-divided : {at next : ℕ} (t : List ℕ) {u : List ℕ} → Text s at (t ++ u) next → (mid : ℕ) × Text s at t mid × Text s mid u next
+  text-divided {at} [] r = (at, ends, r)
+  text-divided (x ∷ t) (byte h e r) = let d = text-divided t r in (d .0, byte h e (d .1), d .2)

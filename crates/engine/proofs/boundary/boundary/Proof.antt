@@ -14,7 +14,7 @@ use Rattle.rules.specs.Lending.{asLent}
 use Rattle.good.specs.Tested.{tested}
 use Rattle.engine.proofs.FirstTests.{chain-long}
 use Rattle.engine.proofs.Dimensions.{at-most-three}
-use Rattle.engine.proofs.Boundaries.{boundary-short, boundary-refused, boundary-form, boundary-chain, factors, boundary-done}
+use Rattle.engine.proofs.Boundaries.{boundary-short, boundary-not-good, boundary-form, boundary-chain, factors, boundary-done}
 use Rattle.engine.proofs.boundary.boundary.Statement.{statement}
 use Rattle.engine.proofs.boundary.boundary.Tie as tie
 
@@ -44,7 +44,7 @@ returns : tie.Need-returns
 returns c = boundary-short _ _ _ _ (not-true _ (c .if1 .taken))
 
 returns-2 : tie.Need-returns-2
-returns-2 c = boundary-refused _ _ _ _ (sized (c .before .before)) (c .before .refusal-of-pattern .ensures) (c .if2 .taken)
+returns-2 c = boundary-not-good _ _ _ _ (sized (c .before .before)) (c .before .refusal-of-pattern .ensures) (c .if2 .taken)
 
 returns-3 : tie.Need-returns-3
 returns-3 c =

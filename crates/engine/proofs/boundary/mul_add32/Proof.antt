@@ -2,7 +2,7 @@
 use mir.Syntax.{w32}
 use mir.Val.{SFits}
 use mir.Facts.{toZ-ofZ, sfits-widen}
-use Rattle.engine.proofs.Products.{term-fits, sum-fits}
+use Rattle.engine.proofs.Products.{term-fits, sum-term-fits}
 use Rattle.engine.proofs.boundary.mul_add32.Statement.{statement}
 use Rattle.engine.proofs.boundary.mul_add32.Tie as tie
 
@@ -23,7 +23,7 @@ add-result c =
     let x = c .fits .x in
     let wide : SFits w32 (c .args .e) = sfits-widen tt e in
     let term = term-fits (c .pre) in
-    simp toZ-ofZ (sum-fits (c .pre))
+    simp toZ-ofZ (sum-term-fits (c .pre))
 
 returns : tie.Need-returns
 returns c =
@@ -32,7 +32,7 @@ returns c =
     let x = c .fits .x in
     let wide : SFits w32 (c .args .e) = sfits-widen tt e in
     let term = term-fits (c .pre) in
-    simp toZ-ofZ (toZ-ofZ (sum-fits (c .pre)))
+    simp toZ-ofZ (toZ-ofZ (sum-term-fits (c .pre)))
 
 pub mul-add32-spec : {M : Type 1} → statement M
 mul-add32-spec = tie.close (tie.spec cast-result mul-result add-result returns)

@@ -7,7 +7,7 @@ use borrow.Author.Tests.{not-true, not-false}
 use Rattle.rules.specs.Counts.{countOf}
 use Rattle.rules.specs.Chains.{isChain, carryLimit}
 use Rattle.rules.specs.Calls.{coefficients}
-use Rattle.engine.proofs.CarryAnswers.{through-refused, through-chain, writable, through-done}
+use Rattle.engine.proofs.CarryAnswers.{through-refused, through-chain, rewritable, through-done}
 use Rattle.engine.proofs.carry.carry_through.Statement.{statement}
 use Rattle.engine.proofs.carry.carry_through.Tie as tie
 
@@ -30,7 +30,7 @@ write-carried-requires : tie.Need-write-carried-requires
 write-carried-requires c κs =
     let tried = c .before .before .before .before in
     let start = tried .before .before .before in
-    writable (start .pre) (tried .before .refusal-of-carrying .ensures) (tried .if1 .left) (passed (c .before))
+    rewritable (start .pre) (tried .before .refusal-of-carrying .ensures) (tried .if1 .left) (passed (c .before))
 
 done : tie.Need-returns-3
 done c =

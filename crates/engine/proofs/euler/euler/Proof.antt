@@ -3,12 +3,12 @@ use mathlib.Core.Path.{sym, _∙_}
 use mir.Syntax.{w16}
 use borrow.Author.Needs.{needs}
 use Rattle.maths.proofs.Sizes.{back}
-use Rattle.engine.proofs.EulerAnswers.{euler-refused, euler-accepted}
+use Rattle.engine.proofs.EulerAnswers.{euler-not-good, euler-accepted}
 use Rattle.engine.proofs.euler.euler.Statement.{statement}
 use Rattle.engine.proofs.euler.euler.Tie as tie
 
 returns : tie.Need-returns
-returns c = euler-refused _ (c .before .refusal-of-pattern .ensures) (c .if1 .taken)
+returns c = euler-not-good _ (c .before .refusal-of-pattern .ensures) (c .if1 .taken)
 
 returns-2 : tie.Need-returns-2
 returns-2 c =

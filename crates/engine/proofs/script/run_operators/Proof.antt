@@ -3,13 +3,13 @@ use mathlib.Core.Path.{sym, _∙_}
 use native.Mathlib.Omega.{arith}
 use Rattle.rules.specs.Complex.{Pattern, pattern, Sized}
 use Rattle.rules.specs.Lending.{asLent}
-use Rattle.engine.proofs.Runs.{Under, run-starts, run-more, run-stops, run-ends}
+use Rattle.engine.proofs.Runs.{OperatorsLeft, run-starts, run-more, run-stops, run-ends}
 use Rattle.engine.proofs.script.run_operators.Statement.{statement}
 use Rattle.engine.proofs.script.run_operators.Tie as tie
 
 abbrev Inv-loop : tie.InvT-loop
 Inv-loop n s m1₀ m2₀ m3₀ counts₀ place₀ left₀ ran₀ m1 m2 m3 counts place left ran =
-    Under s n (pattern counts₀ m1₀ m2₀ m3₀) left ran place (pattern counts m1 m2 m3)
+    OperatorsLeft s n (pattern counts₀ m1₀ m2₀ m3₀) left ran place (pattern counts m1 m2 m3)
 
 abbrev μ-loop : tie.MeasureT-loop
 μ-loop n s m1₀ m2₀ m3₀ counts₀ place₀ left₀ ran₀ m1 m2 m3 counts place left ran = left

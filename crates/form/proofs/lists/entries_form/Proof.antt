@@ -6,7 +6,7 @@ use Prim.Native.Nat.{ℕ}
 use borrow.Author.Needs.{needs}
 use native.Mathlib.Omega.{arith}
 use Rattle.maths.specs.Repeat.{repeat}
-use Rattle.maths.proofs.Repeat.{ended, turned, stopped}
+use Rattle.maths.proofs.Repeat.{repeat-ended, turned, stopped}
 use Rattle.rules.specs.Form.{afterEntry, entryAt, entriesAt}
 use Rattle.rules.specs.declared.form.Field.{Field}
 use Rattle.form.proofs.Bytes.{is}
@@ -44,7 +44,7 @@ loop-again c =
     turned _ _ _ (call .before .loop-test .taken) (λ go. simp (is (call .entry-form .ensures) (c .before .least .given .1))) ∙ loop .inv
 
 all-read : tie.Need-returns-2 Inv-loop μ-loop
-all-read c = ended _ _ _ (omega arith) refl ∙ c .before .loop .inv
+all-read c = repeat-ended _ _ _ (omega arith) refl ∙ c .before .loop .inv
 
 pub entries-form-spec : {M : Type 1} → statement M
 entries-form-spec =

@@ -2,7 +2,7 @@
 use mathlib.Core.Path.{_≡_, refl, _∙_}
 use borrow.Author.Needs.{needs}
 use native.Mathlib.Omega.{arith}
-use Rattle.maths.proofs.Repeat.{ended, turned, stopped}
+use Rattle.maths.proofs.Repeat.{repeat-ended, turned, stopped}
 use Rattle.rules.specs.Form.{countsAt}
 use Rattle.form.proofs.Bytes.{is, got}
 use Rattle.form.proofs.script.counts_form.Statement.{statement}
@@ -33,7 +33,7 @@ loop-again c =
 
 all-read : tie.Need-returns-2 Inv-loop μ-loop
 unfolding countsAt
-all-read c = ended _ _ _ (omega arith) refl ∙ c .before .loop .inv
+all-read c = repeat-ended _ _ _ (omega arith) refl ∙ c .before .loop .inv
 
 pub counts-form-spec : {M : Type 1} → statement M
 counts-form-spec =

@@ -3,7 +3,7 @@ use mathlib.Core.Path.{_≡_, refl, _∙_}
 use borrow.Author.Needs.{needs}
 use borrow.Author.Tests.{lt-ltb, le-ltb}
 use native.Mathlib.Omega.{arith}
-use Rattle.maths.proofs.Repeat.{ended, turned, stopped}
+use Rattle.maths.proofs.Repeat.{repeat-ended, turned, stopped}
 use Rattle.rules.specs.Form.{operatorsAt}
 use Rattle.form.proofs.Bytes.{is}
 use Rattle.form.proofs.script.operators_form.Statement.{statement}
@@ -31,11 +31,11 @@ loop-again c =
 
 left-over : tie.Need-returns-2 Inv-loop μ-loop
 unfolding operatorsAt
-left-over c = ended _ _ _ (omega arith) (simp (lt-ltb _ _ (c .if1 .taken))) ∙ c .before .before .loop .inv
+left-over c = repeat-ended _ _ _ (omega arith) (simp (lt-ltb _ _ (c .if1 .taken))) ∙ c .before .before .loop .inv
 
 all-read : tie.Need-returns-3 Inv-loop μ-loop
 unfolding operatorsAt
-all-read c = ended _ _ _ (omega arith) (simp (le-ltb _ _ (c .if1 .left))) ∙ c .before .before .loop .inv
+all-read c = repeat-ended _ _ _ (omega arith) (simp (le-ltb _ _ (c .if1 .left))) ∙ c .before .before .loop .inv
 
 pub operators-form-spec : {M : Type 1} → statement M
 operators-form-spec =

@@ -3,7 +3,7 @@ use mathlib.Core.Path.{sym, _∙_}
 use borrow.Author.Needs.{needs}
 use Rattle.rules.specs.Complex.{Pattern}
 use Rattle.rules.specs.Lending.{asLent}
-use Rattle.good.proofs.Parts.{Counted, good-few, good-cells, stored}
+use Rattle.good.proofs.Parts.{Counted, good-few, good-cells, stored-matrices}
 use Rattle.good.proofs.pattern.is_good.Statement.{statement}
 use Rattle.good.proofs.pattern.is_good.Tie as tie
 
@@ -24,7 +24,7 @@ counted c =
     }
 
 is-sound-requires : tie.Need-is-sound-requires
-is-sound-requires c κs = stored (counted c) (c .before .before .before .before .before .before .pre)
+is-sound-requires c κs = stored-matrices (counted c) (c .before .before .before .before .before .before .pre)
 
 returns : tie.Need-returns
 returns c = rw (good-cells (counted (c .before))) (c .is-sound .ensures)

@@ -7,7 +7,7 @@ use Rattle.maths.proofs.Buffers.{Pieces, pieces-none, pieces-more, pieces-all}
 use Rattle.rules.specs.Printed.{signedFace}
 use Rattle.rules.specs.Mesh.{oneFace}
 use Rattle.rules.proofs.texts.FaceTexts.{faces-are}
-use Rattle.listing.proofs.Faces.{faces-most}
+use Rattle.listing.proofs.Faces.{face-texts-most}
 use Rattle.listing.proofs.lines.put_faces.Statement.{statement}
 use Rattle.listing.proofs.lines.put_faces.Tie as tie
 
@@ -18,7 +18,7 @@ abbrev μ-loop : tie.MeasureT-loop
 μ-loop out₀ at j m s next₀ i₀ out next i = 96 - i
 
 put-face-requires : tie.Need-put-face-requires Inv-loop μ-loop
-put-face-requires c κs = let loop = c .before .before .before in omega (arith, faces-most _ (loop .loop .inv))
+put-face-requires c κs = let loop = c .before .before .before in omega (arith, face-texts-most _ (loop .loop .inv))
 
 loop-again : tie.Need-loop-again Inv-loop μ-loop
 loop-again c =
@@ -32,7 +32,7 @@ loop-again c =
 returns : tie.Need-returns Inv-loop μ-loop
 returns c =
     let inv = c .before .loop .inv in
-    record { put = rw (← faces-are) (pieces-all inv (omega arith)); most = omega (arith, faces-most _ inv) }
+    record { put = rw (← faces-are) (pieces-all inv (omega arith)); most = omega (arith, face-texts-most _ inv) }
 
 pub put-faces-spec : {M : Type 1} → statement M
 put-faces-spec =

@@ -4,13 +4,13 @@ use native.Mathlib.Omega.{arith}
 use Rattle.rules.specs.Complex.{Pattern, complex, pattern, Sized}
 use Rattle.rules.specs.Mesh.{Place}
 use Rattle.rules.specs.Lending.{asLent}
-use Rattle.mesh.proofs.Parts.{Under, cells-more, cells-stop, cells-end}
+use Rattle.mesh.proofs.Parts.{CellsLeft, cells-more, cells-stop, cells-end}
 use Rattle.mesh.proofs.cells.read_cells.Statement.{statement}
 use Rattle.mesh.proofs.cells.read_cells.Tie as tie
 
 abbrev Inv-loop : tie.InvT-loop
 Inv-loop k n s at m1₀ m2₀ m3₀ counts₀ place₀ left₀ m1 m2 m3 counts place left =
-    Under s k n (complex (pattern counts₀ m1₀ m2₀ m3₀), at) left place (pattern counts m1 m2 m3)
+    CellsLeft s k n (complex (pattern counts₀ m1₀ m2₀ m3₀), at) left place (pattern counts m1 m2 m3)
 
 abbrev μ-loop : tie.MeasureT-loop
 μ-loop k n s at m1₀ m2₀ m3₀ counts₀ place₀ left₀ m1 m2 m3 counts place left = left

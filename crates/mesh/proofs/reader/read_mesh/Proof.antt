@@ -6,7 +6,7 @@ use borrow.Author.Tests.{not-true, not-false}
 use Rattle.rules.specs.Complex.{Pattern, countsOf, empty}
 use Rattle.rules.specs.Calls.{sized}
 use Rattle.rules.specs.Lending.{asLent}
-use Rattle.mesh.proofs.Wholes.{sized-long, wrong-length, mesh-taken, mesh-refused}
+use Rattle.mesh.proofs.Wholes.{sized-long, wrong-length, reading-taken, reading-refused}
 use Rattle.mesh.proofs.reader.read_mesh.Statement.{statement}
 use Rattle.mesh.proofs.reader.read_mesh.Tie as tie
 
@@ -36,14 +36,14 @@ not-taken c =
     let call = test .before .before .before .before .before in
     let first = call .before .before .before .before .before .before .before .before .before .before .before in
     let start = first .before .before .before .before .before .before in
-    mesh-refused (start .args .s .now) (entry start) (long first) (call .read-sections .ensures) (test .if2 .taken) (cleared .clear-all2 .ensures) (c .refused2 .ensures)
+    reading-refused (start .args .s .now) (entry start) (long first) (call .read-sections .ensures) (test .if2 .taken) (cleared .clear-all2 .ensures) (c .refused2 .ensures)
 
 taken : tie.Need-returns-3
 taken c =
     let call = c .before .before .before .before .before in
     let first = call .before .before .before .before .before .before .before .before .before .before .before in
     let start = first .before .before .before .before .before .before in
-    mesh-taken (start .args .s .now) (entry start) (long first) (call .read-sections .ensures) refl (c .if2 .left)
+    reading-taken (start .args .s .now) (entry start) (long first) (call .read-sections .ensures) refl (c .if2 .left)
 
 pub read-mesh-spec : {M : Type 1} → statement M
 read-mesh-spec =

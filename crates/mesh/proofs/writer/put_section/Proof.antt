@@ -3,7 +3,7 @@ use Prim.Native.Nat.{_-_}
 use native.Mathlib.Omega.{arith}
 use Rattle.rules.specs.Mesh.{writeCell}
 use Rattle.maths.specs.Tables.{column}
-use Rattle.mesh.specs.Writing.{cells}
+use Rattle.mesh.specs.Writing.{cellTexts}
 use Rattle.maths.proofs.Buffers.{two-pieces, Pieces, pieces-none, pieces-fit, pieces-more, pieces-all}
 use Rattle.mesh.proofs.writer.put_section.Statement.{statement}
 use Rattle.mesh.proofs.writer.put_section.Tie as tie
@@ -15,7 +15,7 @@ abbrev μ-loop : tie.MeasureT-loop
 μ-loop m k n out₀ at next₀ j₀ j-end out next j = n - j
 
 put-cell-requires : tie.Need-put-cell-requires Inv-loop μ-loop
-unfolding cells
+unfolding cellTexts
 put-cell-requires c κs =
     let loop = c .before .before in
     let count = loop .before .before .before in
@@ -32,7 +32,7 @@ loop-again c =
     pieces-more (cell .before .before .before .loop .inv) (omega arith) (cell .put-cell .ensures)
 
 returns : tie.Need-returns Inv-loop μ-loop
-unfolding cells
+unfolding cellTexts
 returns c =
     let loop = c .before in
     let count = loop .before .before .before in

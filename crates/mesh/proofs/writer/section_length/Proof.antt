@@ -5,7 +5,7 @@ use native.Mathlib.Omega.{arith}
 use lib.ListN.{length}
 use borrow.Author.Needs.{needs}
 use Rattle.mesh.specs.Writing.{sectionText}
-use Rattle.mesh.proofs.CellTexts.{cells-none, cells-more, cells-most}
+use Rattle.mesh.proofs.CellTexts.{cells-none, cell-texts-more, cells-most}
 use Rattle.mesh.proofs.writer.section_length.Statement.{statement}
 use Rattle.mesh.proofs.writer.section_length.Tie as tie
 
@@ -22,13 +22,13 @@ add-sum : tie.Need-add-sum Inv-loop μ-loop
 add-sum c =
     let loop = c .before .before in
     let args = loop .before .args in
-    omega (arith, cells-more (args .k) (args .m .now) (loop .loop .j), cells-most (args .k) (args .m .now) (loop .loop .j + 1))
+    omega (arith, cell-texts-more (args .k) (args .m .now) (loop .loop .j), cells-most (args .k) (args .m .now) (loop .loop .j + 1))
 
 loop-again : tie.Need-loop-again Inv-loop μ-loop
 loop-again c =
     let loop = c .before .before in
     let args = loop .before .args in
-    omega (arith, cells-more (args .k) (args .m .now) (loop .loop .j))
+    omega (arith, cell-texts-more (args .k) (args .m .now) (loop .loop .j))
 
 returns : tie.Need-returns Inv-loop μ-loop
 returns c =

@@ -3,7 +3,7 @@ use mathlib.Core.Path.{_≡_, sym}
 use native.Mathlib.Omega.{arith}
 use Rattle.rules.specs.Good.{allZero}
 use Rattle.maths.proofs.Tests.{all-of, zero-is}
-use Rattle.operators.proofs.patterns.Patterns.{unit1, unit2, unit3, line}
+use Rattle.operators.proofs.patterns.Patterns.{unit1, unit2, unit3, unit-line}
 use Rattle.operators.proofs.kill.is_free.Statement.{statement}
 use Rattle.operators.proofs.kill.is_free.Tie as tie
 
@@ -29,9 +29,9 @@ pub is-free-spec : {M : Type 1} → statement M
 is-free-spec =
     tie.close
     (tie.spec
-    (λ c κs. line (unit1 (c .before .pre)))
-    (λ c κs. line (unit2 (c .before .pre)))
-    (λ c κs. line (unit3 (c .before .pre)))
+    (λ c κs. unit-line (unit1 (c .before .pre)))
+    (λ c κs. unit-line (unit2 (c .before .pre)))
+    (λ c κs. unit-line (unit3 (c .before .pre)))
     returns
     returns-2
     returns-3

@@ -2,7 +2,7 @@
 use mathlib.Core.Path.{_≡_}
 use native.Mathlib.Omega.{arith}
 use borrow.Author.Needs.{needs}
-use Rattle.operators.proofs.patterns.Patterns.{unit1, unit2, unit3, line}
+use Rattle.operators.proofs.patterns.Patterns.{unit1, unit2, unit3, unit-line}
 use Rattle.operators.proofs.kill.KillLaws.{kill0, kill1, kill2, kill3}
 use Rattle.operators.proofs.kill.kill_at.Statement.{statement}
 use Rattle.operators.proofs.kill.kill_at.Tie as tie
@@ -34,12 +34,12 @@ pub kill-at-spec : {M : Type 1} → statement M
 kill-at-spec =
     tie.close
     (tie.spec
-    (λ c κs. line (unit1 (c .before .before .pre)))
-    (λ c κs. line (unit1 (c .before .before .pre)))
-    (λ c κs. line (unit2 (c .before .before .before .before .before .pre)))
-    (λ c κs. line (unit2 (c .before .before .pre)))
-    (λ c κs. line (unit3 (c .before .before .before .before .before .pre)))
-    (λ c κs. line (unit3 (c .before .before .pre)))
+    (λ c κs. unit-line (unit1 (c .before .before .pre)))
+    (λ c κs. unit-line (unit1 (c .before .before .pre)))
+    (λ c κs. unit-line (unit2 (c .before .before .before .before .before .pre)))
+    (λ c κs. unit-line (unit2 (c .before .before .pre)))
+    (λ c κs. unit-line (unit3 (c .before .before .before .before .before .pre)))
+    (λ c κs. unit-line (unit3 (c .before .before .pre)))
     (λ c. search needs)
     returns
     (λ c. search needs)

@@ -13,8 +13,9 @@ use Rattle.rules.specs.Form.{madeOf}
 use Rattle.rules.specs.Calls.{coefficients}
 use Rattle.rules.proofs.bytes.Faces.{given-units}
 use Rattle.rules.specs.Lending.{asLent}
-use Rattle.operators.proofs.make.Bytes.{formed}
-use Rattle.operators.proofs.make.Made.{count-is, no-such-face, full, not-closed, made}
+use Rattle.operators.proofs.make.Bytes.{make-formed}
+use Rattle.rules.proofs.storage.Stored.{count-is}
+use Rattle.operators.proofs.make.Made.{no-such-face, full, not-closed, made-is}
 use Rattle.operators.proofs.make.make.Statement.{statement}
 use Rattle.operators.proofs.make.make.Tie as tie
 
@@ -81,7 +82,7 @@ append-requires c κs =
       held = start .pre .0;
       room = room free;
       size = test .before .before .draw .ensures .size;
-      unit = λ i. rw (ap (λ f. f i) (chain test)) (given-units (faces start) (formed (start .pre .1) .1) i);
+      unit = λ i. rw (ap (λ f. f i) (chain test)) (given-units (faces start) (make-formed (start .pre .1) .1) i);
     }
 
 open-column : tie.Need-returns-3
@@ -100,7 +101,7 @@ cell-made c =
     let test = free .before .before in
     let start = test .before .before .before .before .before .before .before in
     rw (c .grown .ensures)
-    (made (entry start) (start .args .dim) (faces start) (below test) (room free) (chain test) (start .pre .0 .sized) (start .pre .1 .most)
+    (made-is (entry start) (start .args .dim) (faces start) (below test) (room free) (chain test) (start .pre .0 .sized) (start .pre .1 .most)
     (rw (not-false (call .append .result) (done .if3 .left)) at (call .append .ensures)))
 
 pub make-spec : {M : Type 1} → statement M

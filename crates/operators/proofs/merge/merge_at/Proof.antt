@@ -2,7 +2,7 @@
 use mathlib.Core.Path.{_≡_}
 use native.Mathlib.Omega.{arith}
 use borrow.Author.Needs.{needs}
-use Rattle.operators.proofs.patterns.Patterns.{unit1, unit2, line}
+use Rattle.operators.proofs.patterns.Patterns.{unit1, unit2, unit-line}
 use Rattle.operators.proofs.merge.MergeLaws.{apart1, apart2, apart3, above2, above3, merge0, merge1, merge2}
 use Rattle.operators.proofs.merge.merge_at.Statement.{statement}
 use Rattle.operators.proofs.merge.merge_at.Tie as tie
@@ -34,10 +34,10 @@ merge-at-spec =
     (tie.spec
     (λ c κs. apart1 (c .before .before .pre))
     (λ c κs. above2 (c .before .before .before .before .before .pre))
-    (λ c κs. line (unit1 (c .before .before .pre .cell)))
+    (λ c κs. unit-line (unit1 (c .before .before .pre .cell)))
     (λ c κs. apart2 (c .before .before .before .before .before .pre))
     (λ c κs. above3 (c .before .before .before .before .before .before .before .before .pre))
-    (λ c κs. line (unit2 (c .before .before .pre .cell)))
+    (λ c κs. unit-line (unit2 (c .before .before .pre .cell)))
     (λ c κs. apart3 (c .before .before .before .before .before .pre))
     (λ c. search needs)
     (λ c. search needs)

@@ -4,7 +4,7 @@ use native.Mathlib.Omega.{arith}
 use borrow.Author.Needs.{needs}
 use Rattle.rules.specs.Counts.{grownAt}
 use Rattle.operators.proofs.chosen.SplitForms.{list-form}
-use Rattle.operators.proofs.split.SplitAnswers.{no-such-cell, no-room, room-below, room-here, still-room, prepared, answer-refused, answer-accepted}
+use Rattle.operators.proofs.split.SplitAnswers.{no-such-cell, no-room, room-below, room-here, still-room, prepared, split-answer-refused, split-answer-accepted}
 use Rattle.operators.proofs.split.split.Statement.{statement}
 use Rattle.operators.proofs.split.split.Tie as tie
 
@@ -36,7 +36,7 @@ returns-3 c =
     let t = d .before .before .before .before in
     let f = t .before .before in
     let a = f .before .before .before .before in
-    answer-refused (a .pre .0) (a .pre .1) (f .faces-below .ensures) (t .before .if1 .left) (t .if2 .left) (d .split-at .ensures) (c .if3 .taken)
+    split-answer-refused (a .pre .0) (a .pre .1) (f .faces-below .ensures) (t .before .if1 .left) (t .if2 .left) (d .split-at .ensures) (c .if3 .taken)
 
 grown-requires : tie.Need-grown-requires
 grown-requires c κs =
@@ -62,7 +62,7 @@ returns-4 c =
     let t = d .before .before .before .before in
     let f = t .before .before in
     let a = f .before .before .before .before in
-    answer-accepted (a .pre .0) (a .pre .1) (f .faces-below .ensures) (t .before .if1 .left) (t .if2 .left) (d .split-at .ensures) (e .if3 .left)
+    split-answer-accepted (a .pre .0) (a .pre .1) (f .faces-below .ensures) (t .before .if1 .left) (t .if2 .left) (d .split-at .ensures) (e .if3 .left)
     (c .grown2 .ensures ∙ ap (λ x. grownAt x (a .args .dim)) (c .before .grown .ensures))
 
 pub split-spec : {M : Type 1} → statement M
