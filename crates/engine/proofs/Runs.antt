@@ -88,4 +88,4 @@ module _ (s : List ℕ) (n : ℕ) (p : Pattern) where
 
     pub run-ends : operatorLeft ≡ 0 → RunTo s n p ran accepted q
     unfolding runFrom
-    run-ends z = record { held = U .held; is = turns.ended (runOne s) _ (here (complex q) ran place) z refl ∙ U .rest }
+    run-ends z = record { held = U .held; is = turns.repeat-ended (runOne s) _ (here (complex q) ran place) z refl ∙ U .rest }
