@@ -1,12 +1,23 @@
 /* The engine for C: sewn-panel patterns that are processed or refused by a number. Link target/staticlib/libmbyasoka.a.
  *
+ * docs/FORMATS.md says what a good pattern is, the bytes of a mesh, a script and an operator, and when each refusal is given.
  * A pattern is four counts (corners, seams, panels, blocks) and three matrices of MBYASOKA_SIZE signed bytes. Matrix k has a row for
  * each cell of dimension k - 1 and a column for each cell of dimension k; row i of column j stands at MBYASOKA_SIDE * j + i.
  *
- * Every call takes any bytes, counts, lengths and coefficients whatever, tests them, and ends. It uses no heap and keeps nothing
- * between calls. It answers 0, or the number of a refusal below; the first that applies, in the order that is given at the call.
- * What the caller must see to is only what C itself asks: a pointer and its length name memory that the caller may use, and what a
- * call writes to overlaps nothing else that is passed to it. A pointer whose length is 0 must still not be NULL.
+ * Every call takes any bytes, counts, lengths and coefficients whatever, tests them, and ends. It answers 0, or the number of a refusal
+ * below; the first that applies, in the order that is given at the call.
+ *
+ * WARNING: a script that is refused at an operator HAS CHANGED the pattern, see mbyasoka_run_script.
+ *
+ * What the caller must see to is only what C itself asks:
+ * - A pointer and its length name memory that the caller may use. A length counts elements, not bytes: for a chain it is 96, and
+ *   `sizeof` of its array, four times as much, gives refusal 1.
+ * - No pointer may be NULL, not even with length 0.
+ * - What a call writes to overlaps nothing else that is passed to it. So no chain is carried in place: chain and out are two arrays.
+ * - No state is kept between calls, so calls on different patterns may run at once in several threads. While a call writes to a
+ *   pattern, a chain or a buffer, nothing else may use that one; calls that only read it may share it.
+ * - A call takes no heap. Of stack, mbyasoka_carry takes less than 32 KiB, any other less than 2 KiB; docs/SPEED.md has the figures.
+ * - Of the C library the archive for x86-64 needs memcpy and memset alone.
  */
 #ifndef MBYASOKA_H
 #define MBYASOKA_H
@@ -18,18 +29,25 @@
 extern "C" {
 #endif
 
+/* Raised by one with each change that a caller can see: of a call and its arguments, the struct, an answer, a refusal, or the bytes. */
+#define MBYASOKA_VERSION 1
+
 enum {
-    MBYASOKA_SIDE = 96,          /* most cells of a dimension; coefficients of a chain */
-    MBYASOKA_SIZE = 9216,        /* entries of a matrix */
-    MBYASOKA_MESH_BYTES = 37252, /* the longest mesh */
-    MBYASOKA_SCRIPT_BYTES = 24576 /* the longest script */
+    MBYASOKA_SIDE = 96,                 /* most cells of a dimension; coefficients of a chain */
+    MBYASOKA_SIZE = 9216,               /* entries of a matrix */
+    MBYASOKA_MESH_BYTES = 37252,        /* the longest mesh */
+    MBYASOKA_SCRIPT_BYTES = 24576,      /* the longest script */
+    MBYASOKA_OPERATORS = 1024,          /* most operators of a script */
+    MBYASOKA_OPERATOR_BYTES = 194,      /* the longest operator */
+    MBYASOKA_BOUNDARY_LIMIT = 1000000,  /* largest coefficient of a chain whose boundary is asked for, plus or minus */
+    MBYASOKA_CARRY_LIMIT = 100000000    /* largest coefficient of a chain that is carried, plus or minus */
 };
 
 enum {
     MBYASOKA_ACCEPTED = 0,
     MBYASOKA_WRONG_LENGTH = 1,   /* a matrix is not 9,216 or a chain not 96 long; a script is over 24,576 bytes */
     MBYASOKA_NOT_GOOD = 2,       /* the lent pattern is not good */
-    MBYASOKA_BYTES_END = 3,       /* the bytes end inside a field */
+    MBYASOKA_BYTES_END = 3,      /* the bytes end inside a field */
     MBYASOKA_WRONG_FORM = 4,     /* a count over 96, over 1,024 operators, base count not 4, unknown code, sign not 1 or 2, list not
                                     rising, or a chain dimension that is not offered */
     MBYASOKA_NO_SUCH_CELL = 5,   /* a number is not below its count */
@@ -47,19 +65,21 @@ enum {
     MBYASOKA_NOT_CARRIED = 17    /* kill or merge given to carrying */
 };
 
+/* The calls on lent lists. Most callers need only those on mbyasoka_pattern, at the end. */
+
 /* Whether the pattern is good. Refusals: 1, 2. Nothing is written. */
 uint8_t mbyasoka_check(const uint8_t counts[4],
                        const int8_t *m1, size_t m1_length, const int8_t *m2, size_t m2_length, const int8_t *m3, size_t m3_length);
 
-/* Reads a mesh from the front of the bytes. In: bytes. Out: the counts, every byte of the matrices, and how many bytes were used.
- * Refusals: 1; then cell by cell 3 and 4, then 5, then 7. A refusal answers counts 0 and used 0; after 1 the matrices are
- * unchanged, after another all three are zero. */
+/* Reads a mesh from the front of the bytes. Out: the counts, every byte of the matrices, and how many bytes were used.
+ * Refusals: 1; then from the front, a section's count when it is reached, before its cells (3, 4), and each cell by itself: its form
+ * (3, 4), then 5, then 7. A refusal answers counts 0 and used 0; after 1 the matrices are unchanged, after another all three are zero. */
 uint8_t mbyasoka_read_mesh(uint8_t counts[4],
                            int8_t *m1, size_t m1_length, int8_t *m2, size_t m2_length, int8_t *m3, size_t m3_length,
                            const uint8_t *bytes, size_t bytes_length, size_t *used);
 
 /* Writes the pattern as a mesh. Out: the first `*written` bytes of out, and no other. Refusals: 1, 2, 15; a refusal answers written 0
- * and touches no byte of out. */
+ * and touches no byte of out. MBYASOKA_MESH_BYTES are enough for every pattern. */
 uint8_t mbyasoka_write_mesh(const uint8_t counts[4],
                             const int8_t *m1, size_t m1_length, const int8_t *m2, size_t m2_length, const int8_t *m3, size_t m3_length,
                             uint8_t *out, size_t out_length, size_t *written);
@@ -77,24 +97,88 @@ uint8_t mbyasoka_apply_operator(uint8_t counts[4],
 
 /* A script. In and out: counts and matrices. Out: how many operators were accepted. Refusals: 1, 2, the first of 3 and 4 in byte order,
  * 14, 13: then nothing runs, *ran is 0 and no count and no byte changes. Otherwise operators run in order up to the first that is
- * refused, by 5, 6 or 7 to 12; those before it remain, and that one changes nothing. */
+ * refused, by 5, 6 or 7 to 12; that one changes nothing.
+ *
+ * WARNING: after a refusal by 5 to 12 the first *ran operators HAVE CHANGED the pattern, and nothing takes them back. What is left is a
+ * good pattern, but neither the one lent nor the one meant. Whoever wants all or nothing keeps a copy of the counts and the matrices, or
+ * writes the mesh, before the call. */
 uint8_t mbyasoka_run_script(uint8_t counts[4],
                             int8_t *m1, size_t m1_length, int8_t *m2, size_t m2_length, int8_t *m3, size_t m3_length,
                             const uint8_t *bytes, size_t bytes_length, uint16_t *ran);
 
-/* The boundary of a chain of cells of a dimension, 1 to 3. In: 96 coefficients within ±1,000,000, 0 at and past the count. Out: 96
- * coefficients, within ±96,000,000. Refusals: 1, 2, 4, 16; a refusal leaves out unchanged. */
+/* The boundary of a chain of cells of a dimension, 1 to 3. In: 96 coefficients within ±MBYASOKA_BOUNDARY_LIMIT, 0 at and past the count.
+ * Out: 96 coefficients, within 96 times that. Refusals: 1, 2, 4, 16; a refusal leaves out unchanged. */
 uint8_t mbyasoka_boundary(const uint8_t counts[4],
                           const int8_t *m1, size_t m1_length, const int8_t *m2, size_t m2_length, const int8_t *m3, size_t m3_length,
                           uint8_t dimension, const int32_t *chain, size_t chain_length, int32_t *out, size_t out_length);
 
 /* A chain of cells of a dimension, 0 to 3, carried through one make, split or flip, of which these are the bytes; the pattern stays as
- * it is. In: 96 coefficients within ±100,000,000, 0 at and past the count. Out: 96 coefficients. Refusals: 1, 2, 4 for the dimension,
- * the first of 3 and 4 in byte order, 14, 17, 5, 6, 7, 9, 10, and last 16; a refusal leaves out unchanged. */
+ * it is. In: 96 coefficients within ±MBYASOKA_CARRY_LIMIT, 0 at and past the count. Out: 96 coefficients: the new cell of a make and the
+ * dividing cell of a split get 0, the other new cell of a split gets what the split one has, and a flipped cell's changes its sign.
+ * Refusals: 1, 2, 4 for the dimension, the first of 3 and 4 in byte order, 14, 17, 5, 6, 7, 9, 10, and last 16; a refusal leaves out
+ * unchanged. */
 uint8_t mbyasoka_carry(const uint8_t counts[4],
                        const int8_t *m1, size_t m1_length, const int8_t *m2, size_t m2_length, const int8_t *m3, size_t m3_length,
                        const uint8_t *bytes, size_t bytes_length,
                        uint8_t dimension, const int32_t *chain, size_t chain_length, int32_t *out, size_t out_length);
+
+/* A whole pattern. `= {0}` (in C++ `= {}`) makes the empty one, which is good, and `=` a copy. Callers that keep to it and to the calls
+ * below change no line when a later version stores more beside the matrices. It takes 27 KiB: where stacks are small make it static. */
+typedef struct mbyasoka_pattern {
+    uint8_t counts[4];
+    int8_t matrices[3][MBYASOKA_SIZE];
+} mbyasoka_pattern;
+
+/* Each is the call above of that name, with its refusals; 1 is left only for a script that is too long. */
+
+#define MBYASOKA_LENT_(p) \
+    (p)->counts, (p)->matrices[0], MBYASOKA_SIZE, (p)->matrices[1], MBYASOKA_SIZE, (p)->matrices[2], MBYASOKA_SIZE
+
+static inline uint8_t mbyasoka_pattern_check(const mbyasoka_pattern *p)
+{
+    return mbyasoka_check(MBYASOKA_LENT_(p));
+}
+
+/* A refused mesh leaves the empty pattern. */
+static inline uint8_t mbyasoka_pattern_read(mbyasoka_pattern *p, const uint8_t *bytes, size_t bytes_length, size_t *used)
+{
+    return mbyasoka_read_mesh(MBYASOKA_LENT_(p), bytes, bytes_length, used);
+}
+
+static inline uint8_t mbyasoka_pattern_write(const mbyasoka_pattern *p, uint8_t *out, size_t out_length, size_t *written)
+{
+    return mbyasoka_write_mesh(MBYASOKA_LENT_(p), out, out_length, written);
+}
+
+static inline uint8_t mbyasoka_pattern_euler(const mbyasoka_pattern *p, int16_t *number)
+{
+    return mbyasoka_euler(MBYASOKA_LENT_(p), number);
+}
+
+static inline uint8_t mbyasoka_pattern_apply(mbyasoka_pattern *p, const uint8_t *bytes, size_t bytes_length)
+{
+    return mbyasoka_apply_operator(MBYASOKA_LENT_(p), bytes, bytes_length);
+}
+
+/* WARNING: as at mbyasoka_run_script, a refusal by 5 to 12 HAS CHANGED the pattern. All or nothing: copy it before, by `=`. */
+static inline uint8_t mbyasoka_pattern_run(mbyasoka_pattern *p, const uint8_t *bytes, size_t bytes_length, uint16_t *ran)
+{
+    return mbyasoka_run_script(MBYASOKA_LENT_(p), bytes, bytes_length, ran);
+}
+
+static inline uint8_t mbyasoka_pattern_boundary(const mbyasoka_pattern *p, uint8_t dimension,
+                                                const int32_t chain[MBYASOKA_SIDE], int32_t out[MBYASOKA_SIDE])
+{
+    return mbyasoka_boundary(MBYASOKA_LENT_(p), dimension, chain, MBYASOKA_SIDE, out, MBYASOKA_SIDE);
+}
+
+static inline uint8_t mbyasoka_pattern_carry(const mbyasoka_pattern *p, const uint8_t *bytes, size_t bytes_length, uint8_t dimension,
+                                             const int32_t chain[MBYASOKA_SIDE], int32_t out[MBYASOKA_SIDE])
+{
+    return mbyasoka_carry(MBYASOKA_LENT_(p), bytes, bytes_length, dimension, chain, MBYASOKA_SIDE, out, MBYASOKA_SIDE);
+}
+
+#undef MBYASOKA_LENT_
 
 #ifdef __cplusplus
 }

@@ -1,27 +1,30 @@
 //! The engine for Rust: a pattern with the calls as methods, safe and with no heap. `calls` has the same on lent slices.
+//! docs/FORMATS.md says what a good pattern is and the bytes of meshes, scripts and operators; include/mbyasoka.h, for each call, the order
+//! of its refusals, the stack it takes and what the archive needs.
 pub mod calls;
+pub mod limits;
 pub mod raw;
+mod refusal;
 
-/// Rows and columns of a matrix, and coefficients of a chain.
-pub const SIDE: usize = 96;
-/// Entries of a matrix.
-pub const SIZE: usize = SIDE * SIDE;
+pub use limits::{SIDE, SIZE};
+pub use refusal::Refusal;
 
-/// Why a call was refused: a number from 1 to 17 of include/mbyasoka.h.
-#[derive(Clone, Copy, Debug, PartialEq, Eq)]
-pub struct Refusal(pub u8);
+/// Raised by one with each change that a caller can see, as in include/mbyasoka.h.
+pub const VERSION: u32 = 1;
 
 pub type Chain = [i32; SIDE];
 
-/// What became of a script: operators before the first refusal stay.
+/// What became of a script. **Where an operator was refused (5 to 12), the `ran` before it have changed the pattern and stay.**
 #[derive(Clone, Copy, Debug, PartialEq, Eq)]
 pub struct Run {
     pub ran: u16,
     pub refusal: Option<Refusal>,
 }
 
-/// Counts and boundary matrices. Whoever sets the fields need not see to it that they are good: every call tests them.
+/// Counts and boundary matrices, as `mbyasoka_pattern` for C: the default is the empty pattern, which is good. Whoever sets the fields need
+/// not see to it that they are good: every call tests them. A later version may store more, so it is not made by naming its fields.
 #[derive(Clone, Debug, PartialEq, Eq)]
+#[non_exhaustive]
 pub struct Pattern {
     pub counts: calls::Counts,
     pub matrices: [[i8; SIZE]; 3],
@@ -65,10 +68,12 @@ impl Pattern {
         accepted(refusal, written)
     }
 
+    /// Whether the pattern is good.
     pub fn check(&self) -> Result<(), Refusal> {
         accepted(calls::check(self.counts, self.lent()), ())
     }
 
+    /// Corners - seams + panels - blocks.
     pub fn euler(&self) -> Result<i16, Refusal> {
         let (refusal, number) = calls::euler(self.counts, self.lent());
         accepted(refusal, number)
@@ -81,7 +86,7 @@ impl Pattern {
         accepted(refusal, ())
     }
 
-    /// A script, up to its first refusal.
+    /// A script, up to its first refusal. **A script refused at an operator has changed the pattern**: who wants all or nothing keeps a clone.
     pub fn run(&mut self, script: &[u8]) -> Run {
         let (refusal, counts, ran) = calls::run_script(self.counts, self.lent_mut(), script);
         self.counts = counts;

@@ -1,0 +1,31 @@
+//! The wrapper has the numbers of include/mbyasoka.h, by their names there.
+use mbyasoka::{limits, Refusal, VERSION};
+
+const HEADER: &str = include_str!("../../include/mbyasoka.h");
+
+macro_rules! limits {
+    ($($name:ident)*) => { [$((stringify!($name), limits::$name as i64)),*] };
+}
+
+macro_rules! refusals {
+    ($($name:ident)*) => { [$((stringify!($name), Refusal::$name.0.into())),*] };
+}
+
+/// Name and number, where a line of the header gives one.
+fn given(line: &str) -> Option<(&str, i64)> {
+    let rest = line.trim().trim_start_matches("#define ").strip_prefix("MBYASOKA_")?;
+    let (name, value) = rest.split_once(" = ").or_else(|| rest.split_once(' '))?;
+    let number = value.split(|c: char| !c.is_ascii_digit()).next()?;
+    Some((name, number.parse().ok()?))
+}
+
+#[test]
+fn numbers_are_those_of_the_header() {
+    let limits = limits![SIDE SIZE MESH_BYTES SCRIPT_BYTES OPERATORS OPERATOR_BYTES BOUNDARY_LIMIT CARRY_LIMIT];
+    let refusals: [(&str, i64); 17] = refusals![
+        WRONG_LENGTH NOT_GOOD BYTES_END WRONG_FORM NO_SUCH_CELL NO_ROOM NOT_CLOSED IN_USE WRONG_PART WRONG_DIVIDER NOT_BETWEEN WRONG_SUM
+        STALE BYTES_LEFT SHORT_OUTPUT WRONG_CHAIN NOT_CARRIED
+    ];
+    let ours: Vec<_> = [("VERSION", VERSION.into())].into_iter().chain(limits).chain([("ACCEPTED", 0)]).chain(refusals).collect();
+    assert_eq!(HEADER.lines().filter_map(given).collect::<Vec<_>>(), ours);
+}

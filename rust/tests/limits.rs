@@ -1,0 +1,70 @@
+//! The limits are the engine's: what is at each is taken, what is one beyond is refused.
+use mbyasoka::limits::*;
+use mbyasoka::{Pattern, Refusal, Run};
+
+/// As many corners, seams, panels and blocks as there can be, each panel and block with as many faces.
+fn full_mesh() -> Vec<u8> {
+    let side = SIDE as u8;
+    let mut mesh = vec![side, side];
+    mesh.extend([0, 1].repeat(SIDE));
+    for turning in [1, 0] {
+        mesh.push(side);
+        for j in 0..side {
+            mesh.push(side);
+            mesh.extend((0..side).flat_map(|i| [i, 1 + (turning * i + j) % 2]));
+        }
+    }
+    mesh
+}
+
+fn full() -> Box<Pattern> {
+    let mut pattern = Box::<Pattern>::default();
+    assert_eq!(pattern.read(&full_mesh()), Ok(MESH_BYTES));
+    pattern
+}
+
+#[test]
+fn of_the_mesh() {
+    let mut out = [0; MESH_BYTES];
+    assert_eq!(full().write(&mut out[1..]), Err(Refusal::SHORT_OUTPUT));
+    assert_eq!(full().write(&mut out), Ok(MESH_BYTES));
+    assert!(out[..] == full_mesh());
+}
+
+#[test]
+fn of_an_operator() {
+    let mut operator = vec![0x12, SIDE as u8];
+    operator.extend((0..SIDE as u8).flat_map(|i| [i, 1]));
+    assert_eq!(operator.len(), OPERATOR_BYTES);
+    assert_eq!(full().apply(&operator), Err(Refusal::NO_ROOM));
+    operator.push(0);
+    assert_eq!(full().apply(&operator), Err(Refusal::BYTES_LEFT));
+}
+
+#[test]
+fn of_a_script() {
+    let script = |count: u16| {
+        let mut script = vec![4, 96, 96, 96, 96];
+        script.extend(count.to_le_bytes());
+        script.extend([0x51, 0].repeat(count.into()));
+        script
+    };
+    assert_eq!(full().run(&script(OPERATORS)), Run { ran: OPERATORS, refusal: None });
+    assert_eq!(full().run(&script(OPERATORS + 1)), Run { ran: 0, refusal: Some(Refusal::WRONG_FORM) });
+    let mut long = script(OPERATORS);
+    long.resize(SCRIPT_BYTES, 0);
+    assert_eq!(full().run(&long).refusal, Some(Refusal::BYTES_LEFT));
+    long.push(0);
+    assert_eq!(full().run(&long).refusal, Some(Refusal::WRONG_LENGTH));
+}
+
+#[test]
+fn of_coefficients() {
+    let (pattern, mut out) = (full(), [0; SIDE]);
+    for sign in [1, -1] {
+        assert_eq!(pattern.boundary(2, &[sign * BOUNDARY_LIMIT; SIDE], &mut out), Ok(()));
+        assert_eq!(pattern.boundary(2, &[sign * (BOUNDARY_LIMIT + 1); SIDE], &mut out), Err(Refusal::WRONG_CHAIN));
+        assert_eq!(pattern.carry(&[0x52, 0], 2, &[sign * CARRY_LIMIT; SIDE], &mut out), Ok(()));
+        assert_eq!(pattern.carry(&[0x52, 0], 2, &[sign * (CARRY_LIMIT + 1); SIDE], &mut out), Err(Refusal::WRONG_CHAIN));
+    }
+}
