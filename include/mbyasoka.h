@@ -14,8 +14,8 @@
  *   `sizeof` of its array, four times as much, gives refusal 1.
  * - No pointer may be NULL, not even with length 0.
  * - What a call writes to overlaps nothing else that is passed to it. So no chain is carried in place: chain and out are two arrays.
- * - No state is kept between calls, so calls on different patterns may run at once in several threads. While a call writes to a
- *   pattern, a chain or a buffer, nothing else may use that one; calls that only read it may share it.
+ * - During a call nothing else writes to what is passed to it, or reads what it writes to. No state is kept between calls, so calls on
+ *   different patterns may run at once in several threads, and calls that only read may share a pattern.
  * - A call takes no heap. Of stack, mbyasoka_carry takes less than 32 KiB, any other less than 2 KiB; docs/SPEED.md has the figures.
  * - Of the C library the archive for x86-64 needs memcpy and memset alone.
  */
