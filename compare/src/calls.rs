@@ -1,9 +1,10 @@
 //! One comparison for each call: answers, and every byte that was lent, to be written or only to be read.
 
 use crate::coverage::{call_name, Call, Coverage};
+use crate::engine;
 use crate::lending::{hex, lend, Twice};
 use crate::patterns::Pattern;
-use mbyasoka::calls as engine;
+use crate::random::Random;
 use std::fmt::Debug;
 use std::io::Write;
 
@@ -11,6 +12,7 @@ pub struct Comparison {
     pub coverage: Coverage,
     pub calls: u64,
     part: String,
+    rubbish: Random,
 }
 
 /// A chain lent to a call, with its dimension and the buffer for the result.
@@ -22,13 +24,12 @@ pub struct Chain<'a> {
 
 /// The mesh where both call the pattern good, else counts and matrices.
 fn pattern_text(pattern: &Pattern) -> String {
-    let [m1, m2, m3] = lent(pattern);
     let counts = pattern.counts;
-    let good = engine::check(counts, [m1, m2, m3]) == 0;
+    let good = engine::check(counts, pattern.clone().lent()).0 == 0;
     match pattern.mesh().filter(|_| good) {
         Some(mesh) => format!("  pattern of the mesh {}\n", hex(&mesh)),
         None => {
-            let [m1, m2, m3] = [m1, m2, m3].map(hex);
+            let [m1, m2, m3] = [0, 1, 2].map(|at: usize| hex(&pattern.matrices[at]));
             format!("  counts {counts:?}\n  m1 {m1}\n  m2 {m2}\n  m3 {m3}\n")
         }
     }
@@ -39,25 +40,9 @@ fn chain_text(chain: &Chain) -> String {
     format!("  dimension {}\n  chain {own}\n  out {out}\n", chain.dimension)
 }
 
-fn lent(pattern: &Pattern) -> [&[i8]; 3] {
-    let [m1, m2, m3] = &pattern.matrices;
-    [m1, m2, m3]
-}
-
-const NO_MATRICES: [&[i8]; 3] = [&[]; 3];
-
-/// Asked after a call: whether it changed what it was only to read.
-fn kept<'a>(matrices: [&'a [i8]; 3], bytes: &'a [u8], chain: &'a [i32]) -> impl Fn() -> Option<String> + 'a {
-    let before = (matrices.map(<[i8]>::to_vec), bytes.to_vec(), chain.to_vec());
-    move || {
-        let matrices_kept = matrices.iter().zip(&before.0).all(|(now, before)| now == before);
-        let all_kept = matrices_kept && before.1 == bytes && before.2 == chain;
-        (!all_kept).then(|| "what was only to be read".to_string())
-    }
-}
-
 fn twice(pattern: &Pattern) -> [Twice<i8>; 3] {
-    lent(pattern).map(Twice::of)
+    let [m1, m2, m3] = &pattern.matrices;
+    [m1, m2, m3].map(|matrix| Twice::of(matrix))
 }
 
 fn differing(matrices: &[Twice<i8>; 3]) -> Option<String> {
@@ -68,7 +53,7 @@ fn differing(matrices: &[Twice<i8>; 3]) -> Option<String> {
 impl Comparison {
     /// The part of the run that these calls are, named in the report of a difference.
     pub fn new(part: String) -> Self {
-        Comparison { coverage: Coverage::default(), calls: 0, part }
+        Comparison { coverage: Coverage::default(), calls: 0, part, rubbish: Random::new(0) }
     }
 
     /// Ends the program at a difference in the answers or in a lent buffer.
@@ -99,60 +84,60 @@ impl Comparison {
         std::process::exit(1);
     }
 
-    pub fn check(&mut self, pattern: &Pattern) {
-        let kept = kept(lent(pattern), &[], &[]);
-        let [m1, m2, m3] = lent(pattern);
-        let first = engine::check(pattern.counts, [m1, m2, m3]);
-        let second = second::check(pattern.counts, m1, m2, m3);
-        self.judge(Call::Check, [first, second], kept(), || pattern_text(pattern));
-        self.coverage.answer(Call::Check, first);
+    /// Answers the refusal.
+    pub fn check(&mut self, pattern: &Pattern) -> u8 {
+        let mut matrices = twice(pattern);
+        let [ours, [m1, m2, m3]] = lend(&mut matrices);
+        let first = engine::check(pattern.counts, ours);
+        let second = (second::check(pattern.counts, m1, m2, m3), pattern.counts);
+        self.judge(Call::Check, [first, second], differing(&matrices), || pattern_text(pattern));
+        self.coverage.answer(Call::Check, first.0);
+        first.0
     }
 
     pub fn euler(&mut self, pattern: &Pattern) {
-        let kept = kept(lent(pattern), &[], &[]);
-        let [m1, m2, m3] = lent(pattern);
-        let first = engine::euler(pattern.counts, [m1, m2, m3]);
-        let second = second::euler(pattern.counts, m1, m2, m3);
-        self.judge(Call::Euler, [first, second], kept(), || pattern_text(pattern));
+        let mut matrices = twice(pattern);
+        let [ours, [m1, m2, m3]] = lend(&mut matrices);
+        let first = engine::euler(pattern.counts, ours, self.rubbish.next());
+        let (refusal, number) = second::euler(pattern.counts, m1, m2, m3);
+        let second = (refusal, pattern.counts, number);
+        self.judge(Call::Euler, [first, second], differing(&matrices), || pattern_text(pattern));
         self.coverage.answer(Call::Euler, first.0);
     }
 
     /// Reads over whatever the matrices of `over` hold.
     pub fn read_mesh(&mut self, bytes: &[u8], over: &Pattern) {
-        let kept = kept(NO_MATRICES, bytes, &[]);
-        let mut matrices = twice(over);
+        let (mut matrices, mut meshes) = (twice(over), Twice::of(bytes));
         let [ours, [m1, m2, m3]] = lend(&mut matrices);
-        let first = engine::read_mesh(bytes, ours);
-        let second = second::read_mesh(bytes, m1, m2, m3);
-        self.judge(Call::ReadMesh, [first, second], kept().or_else(|| differing(&matrices)), || {
-            format!("  bytes {}\n  over {}", hex(bytes), pattern_text(over))
-        });
+        let [mesh, same] = meshes.lent();
+        let first = engine::read_mesh(ours, mesh, self.rubbish.next());
+        let second = second::read_mesh(same, m1, m2, m3);
+        let lent = differing(&matrices).or_else(|| meshes.difference("bytes"));
+        self.judge(Call::ReadMesh, [first, second], lent, || format!("  bytes {}\n  over {}", hex(bytes), pattern_text(over)));
         self.coverage.answer(Call::ReadMesh, first.0);
     }
 
     pub fn write_mesh(&mut self, pattern: &Pattern, out: &[u8]) {
-        let kept = kept(lent(pattern), &[], &[]);
-        let [m1, m2, m3] = lent(pattern);
-        let mut outs = Twice::of(out);
-        let [ours, theirs] = outs.lent();
-        let first = engine::write_mesh(pattern.counts, [m1, m2, m3], ours);
-        let second = second::write_mesh(pattern.counts, m1, m2, m3, theirs);
-        self.judge(Call::WriteMesh, [first, second], kept().or_else(|| outs.difference("out")), || {
-            format!("{}  out {}\n", pattern_text(pattern), hex(out))
-        });
+        let (mut matrices, mut outs) = (twice(pattern), Twice::of(out));
+        let [ours, [m1, m2, m3]] = lend(&mut matrices);
+        let [own, theirs] = outs.lent();
+        let first = engine::write_mesh(pattern.counts, ours, own, self.rubbish.next());
+        let (refusal, written) = second::write_mesh(pattern.counts, m1, m2, m3, theirs);
+        let second = (refusal, pattern.counts, written);
+        let lent = differing(&matrices).or_else(|| outs.difference("out"));
+        self.judge(Call::WriteMesh, [first, second], lent, || format!("{}  out {}\n", pattern_text(pattern), hex(out)));
         self.coverage.answer(Call::WriteMesh, first.0);
     }
 
     /// Answers the pattern as the call left it.
     pub fn apply_operator(&mut self, pattern: &Pattern, bytes: &[u8]) -> Pattern {
-        let kept = kept(NO_MATRICES, bytes, &[]);
-        let mut matrices = twice(pattern);
+        let (mut matrices, mut operators) = (twice(pattern), Twice::of(bytes));
         let [ours, [m1, m2, m3]] = lend(&mut matrices);
-        let first = engine::apply_operator(pattern.counts, ours, bytes);
-        let second = second::apply_operator(pattern.counts, m1, m2, m3, bytes);
-        self.judge(Call::ApplyOperator, [first, second], kept().or_else(|| differing(&matrices)), || {
-            format!("{}  operator {}\n", pattern_text(pattern), hex(bytes))
-        });
+        let [operator, same] = operators.lent();
+        let first = engine::apply_operator(pattern.counts, ours, operator);
+        let second = second::apply_operator(pattern.counts, m1, m2, m3, same);
+        let lent = differing(&matrices).or_else(|| operators.difference("operator"));
+        self.judge(Call::ApplyOperator, [first, second], lent, || format!("{}  operator {}\n", pattern_text(pattern), hex(bytes)));
         self.coverage.answer(Call::ApplyOperator, first.0);
         if let Some(&code) = bytes.first() {
             self.coverage.operator(code, first.0);
@@ -162,45 +147,43 @@ impl Comparison {
 
     /// Answers the pattern as the call left it.
     pub fn run_script(&mut self, pattern: &Pattern, bytes: &[u8]) -> Pattern {
-        let kept = kept(NO_MATRICES, bytes, &[]);
-        let mut matrices = twice(pattern);
+        let (mut matrices, mut scripts) = (twice(pattern), Twice::of(bytes));
         let [ours, [m1, m2, m3]] = lend(&mut matrices);
-        let first = engine::run_script(pattern.counts, ours, bytes);
-        let second = second::run_script(pattern.counts, m1, m2, m3, bytes);
-        self.judge(Call::RunScript, [first, second], kept().or_else(|| differing(&matrices)), || {
-            format!("{}  script {}\n", pattern_text(pattern), hex(bytes))
-        });
+        let [script, same] = scripts.lent();
+        let first = engine::run_script(pattern.counts, ours, script, self.rubbish.next());
+        let second = second::run_script(pattern.counts, m1, m2, m3, same);
+        let lent = differing(&matrices).or_else(|| scripts.difference("script"));
+        self.judge(Call::RunScript, [first, second], lent, || format!("{}  script {}\n", pattern_text(pattern), hex(bytes)));
         self.coverage.answer(Call::RunScript, first.0);
         self.coverage.script(bytes, first.2, first.0);
         Pattern { counts: first.1, matrices: matrices.map(|matrix| matrix.left().to_vec()) }
     }
 
     pub fn boundary(&mut self, pattern: &Pattern, chain: &Chain) {
-        let kept = kept(lent(pattern), &[], chain.coefficients);
-        let [m1, m2, m3] = lent(pattern);
-        let (dimension, own) = (chain.dimension, chain.coefficients);
-        let mut outs = Twice::of(chain.out);
-        let [ours, theirs] = outs.lent();
-        let first = engine::boundary(pattern.counts, [m1, m2, m3], dimension, own, ours);
-        let second = second::boundary(pattern.counts, m1, m2, m3, dimension, own, theirs);
-        self.judge(Call::Boundary, [first, second], kept().or_else(|| outs.difference("out")), || {
-            pattern_text(pattern) + &chain_text(chain)
-        });
-        self.coverage.answer(Call::Boundary, first);
+        let (mut matrices, mut chains, mut outs) = (twice(pattern), Twice::of(chain.coefficients), Twice::of(chain.out));
+        let [ours, [m1, m2, m3]] = lend(&mut matrices);
+        let ([lent, same], [own, theirs]) = (chains.lent(), outs.lent());
+        let first = engine::boundary(pattern.counts, ours, chain.dimension, lent, own);
+        let second = (second::boundary(pattern.counts, m1, m2, m3, chain.dimension, same, theirs), pattern.counts);
+        let lent = differing(&matrices).or_else(|| chains.difference("chain")).or_else(|| outs.difference("out"));
+        self.judge(Call::Boundary, [first, second], lent, || pattern_text(pattern) + &chain_text(chain));
+        self.coverage.answer(Call::Boundary, first.0);
+        self.coverage.bounded(chain.dimension, chain.coefficients, first.0);
     }
 
     pub fn carry(&mut self, pattern: &Pattern, bytes: &[u8], chain: &Chain) {
-        let kept = kept(lent(pattern), bytes, chain.coefficients);
-        let [m1, m2, m3] = lent(pattern);
-        let (dimension, own) = (chain.dimension, chain.coefficients);
-        let mut outs = Twice::of(chain.out);
-        let [ours, theirs] = outs.lent();
-        let first = engine::carry(pattern.counts, [m1, m2, m3], bytes, dimension, own, ours);
-        let second = second::carry(pattern.counts, m1, m2, m3, bytes, dimension, own, theirs);
-        self.judge(Call::Carry, [first, second], kept().or_else(|| outs.difference("out")), || {
-            let operator = hex(bytes);
-            format!("{}  operator {operator}\n{}", pattern_text(pattern), chain_text(chain))
+        let (mut matrices, mut operators) = (twice(pattern), Twice::of(bytes));
+        let (mut chains, mut outs) = (Twice::of(chain.coefficients), Twice::of(chain.out));
+        let [ours, [m1, m2, m3]] = lend(&mut matrices);
+        let ([operator, same_operator], [lent, same], [own, theirs]) = (operators.lent(), chains.lent(), outs.lent());
+        let first = engine::carry(pattern.counts, ours, operator, chain.dimension, lent, own);
+        let second = second::carry(pattern.counts, m1, m2, m3, same_operator, chain.dimension, same, theirs);
+        let lent = differing(&matrices).or_else(|| operators.difference("operator"));
+        let lent = lent.or_else(|| chains.difference("chain")).or_else(|| outs.difference("out"));
+        self.judge(Call::Carry, [first, (second, pattern.counts)], lent, || {
+            format!("{}  operator {}\n{}", pattern_text(pattern), hex(bytes), chain_text(chain))
         });
-        self.coverage.answer(Call::Carry, first);
+        self.coverage.answer(Call::Carry, first.0);
+        self.coverage.carried(bytes, chain.dimension, chain.coefficients, first.0);
     }
 }

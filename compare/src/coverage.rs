@@ -1,5 +1,6 @@
-//! Which numbers were answered, and which operators were accepted or refused.
+//! Which numbers were answered, which operators were accepted or refused, which chains were accepted, and which damages found.
 
+use crate::damaged::WAYS;
 use crate::operators::CODES;
 
 #[derive(Clone, Copy)]
@@ -40,6 +41,11 @@ fn meanings(code: u8) -> &'static [usize] {
     }
 }
 
+/// The operators that carry chains.
+fn carries(code: u8) -> bool {
+    matches!(code >> 4, 1 | 3 | 5)
+}
+
 fn name(code: u8) -> String {
     let kind = ["make", "kill", "split", "merge", "flip"][usize::from(code >> 4) - 1];
     format!("{kind} {}", code & 15)
@@ -53,6 +59,9 @@ pub fn call_name(call: Call) -> &'static str {
 pub struct Coverage {
     answered: [[u64; 18]; 8],
     meant: [[u64; 18]; 17],
+    carried: [[u64; 4]; 17],
+    bounded: [u64; 4],
+    damaged: [[u64; 3]; WAYS.len()],
     strange: Vec<String>,
 }
 
@@ -84,30 +93,61 @@ impl Coverage {
         }
     }
 
-    pub fn add(&mut self, other: Coverage) {
-        let counts = self.answered.iter_mut().chain(&mut self.meant).flatten();
-        let more = other.answered.iter().chain(&other.meant).flatten();
-        for (count, more) in counts.zip(more) {
-            *count += more;
+    /// The answer to a chain whose boundary was asked for; one that is all 0 tells nothing.
+    pub fn bounded(&mut self, dimension: u8, chain: &[i32], number: u8) {
+        if number == 0 && chain.iter().any(|&coefficient| coefficient != 0) {
+            self.bounded[usize::from(dimension)] += 1;
+        }
+    }
+
+    /// The answer to a chain that was to be carried. Where the operator names a cell of the chain's dimension, one that is 0 there tells
+    /// nothing, elsewhere one that is all 0.
+    pub fn carried(&mut self, bytes: &[u8], dimension: u8, chain: &[i32], number: u8) {
+        let place = CODES.iter().position(|own| bytes.first() == Some(own));
+        if let (Some(place), 0) = (place, number) {
+            let telling = match (CODES[place], bytes.get(1)) {
+                (code @ 0x31.., Some(&cell)) if code & 15 == dimension => chain[usize::from(cell)] != 0,
+                _ => chain.iter().any(|&coefficient| coefficient != 0),
+            };
+            self.carried[place][usize::from(dimension)] += u64::from(telling);
+        }
+    }
+
+    /// What `check` answers to a pattern that was spoiled in one way; one that is still good does not count.
+    pub fn damaged(&mut self, way: usize, number: u8) {
+        if number == 2 {
+            self.damaged[way][2] += 1;
+        }
+    }
+
+    fn counts(&mut self) -> impl Iterator<Item = &mut u64> {
+        let numbers = self.answered.iter_mut().chain(&mut self.meant).flatten();
+        let chains = self.carried.iter_mut().chain([&mut self.bounded]).flatten();
+        numbers.chain(chains).chain(self.damaged.iter_mut().flatten())
+    }
+
+    pub fn add(&mut self, mut other: Coverage) {
+        for (count, more) in self.counts().zip(other.counts()) {
+            *count += *more;
         }
         self.strange.extend(other.strange);
     }
 
-    /// Prints both tables; every number that was missed, or answered where it may not be.
+    /// Prints the tables; everything that was missed, or was answered where it may not be.
     pub fn print(&self) -> Vec<String> {
-        let mut faults = self.strange.clone();
-        heading("call", 0..18);
-        for ((name, allowed), counts) in CALLS.iter().zip(&self.answered) {
-            row(name, counts.iter());
-            faults.extend(compared(name, allowed, counts));
-        }
-        println!();
-        heading("operator", (0..1).chain(5..13));
-        for (&code, counts) in CODES.iter().zip(&self.meant) {
-            row(&name(code), counts[..1].iter().chain(&counts[5..13]));
-            faults.extend(compared(&name(code), meanings(code), counts));
-        }
-        faults
+        let calls = CALLS.iter().zip(&self.answered).map(|(&(name, allowed), counts)| row(name, allowed, counts));
+        let operators = CODES.iter().zip(&self.meant).map(|(&code, counts)| row(&name(code), meanings(code), counts));
+        let carried = CODES.iter().zip(&self.carried).filter(|(&code, _)| carries(code));
+        let carried = carried.map(|(&code, counts)| row(&format!("carry {}", name(code)), &[0, 1, 2, 3], counts));
+        let bounded = row("boundary", &[1, 2, 3], &self.bounded);
+        let damaged = WAYS.iter().zip(&self.damaged).map(|(way, counts)| row(way, &[2], counts));
+        let tables = [
+            table("call", "answered", 0..18, calls.collect()),
+            table("operator", "answered", (0..1).chain(5..13), operators.collect()),
+            table("chain of dim.", "accepted a chain of dimension", 0..4, std::iter::once(bounded).chain(carried).collect()),
+            table("damage", "met refusal", 2..3, damaged.collect()),
+        ];
+        self.strange.iter().cloned().chain(tables.into_iter().flatten()).collect()
     }
 }
 
@@ -123,31 +163,116 @@ fn length(bytes: &[u8]) -> usize {
     }
 }
 
-fn compared(name: &str, allowed: &[usize], counts: &[u64]) -> Vec<String> {
-    let mut faults = Vec::new();
-    for (number, &count) in counts.iter().enumerate() {
-        match (allowed.contains(&number), count) {
-            (true, 0) => faults.push(format!("{name} never answered {number}")),
-            (false, 1..) => faults.push(format!("{name} answered {number}, {count} times")),
-            _ => {}
+/// A row of a table: its name, the columns that must be reached, no other being allowed, and the counts in all columns.
+struct Row<'a> {
+    name: String,
+    allowed: &'a [usize],
+    counts: &'a [u64],
+}
+
+fn row<'a>(name: &str, allowed: &'a [usize], counts: &'a [u64]) -> Row<'a> {
+    Row { name: name.to_string(), allowed, counts }
+}
+
+impl Row<'_> {
+    fn faults(&self, verb: &str) -> Vec<String> {
+        let mut faults = Vec::new();
+        for (number, &count) in self.counts.iter().enumerate() {
+            match (self.allowed.contains(&number), count) {
+                (true, 0) => faults.push(format!("{} never {verb} {number}", self.name)),
+                (false, 1..) => faults.push(format!("{} {verb} {number}, {count} times", self.name)),
+                _ => {}
+            }
+        }
+        faults
+    }
+}
+
+/// Prints some columns of the rows and answers the faults of all.
+fn table(heading: &str, verb: &str, columns: impl Iterator<Item = usize> + Clone, rows: Vec<Row>) -> Vec<String> {
+    line(heading, columns.clone().map(|number| number.to_string()));
+    for row in &rows {
+        let shown = columns.clone().map(|number| match row.counts[number] {
+            0 => ".".to_string(),
+            count => count.to_string(),
+        });
+        line(&row.name, shown);
+    }
+    println!();
+    rows.iter().flat_map(|row| row.faults(verb)).collect()
+}
+
+fn line(first: &str, words: impl Iterator<Item = String>) {
+    let words: Vec<String> = words.map(|word| format!("{word:>6}")).collect();
+    println!("{first:<14} {}", words.join(" "));
+}
+
+#[cfg(test)]
+mod tests {
+    use super::*;
+
+    fn missed(coverage: &Coverage, fault: &str) -> bool {
+        coverage.print().iter().any(|own| own == fault)
+    }
+
+    #[test]
+    fn every_row_must_be_reached() {
+        let faults = Coverage::default().print();
+        let numbers = CALLS.iter().map(|call| call.1.len()).chain(CODES.map(|code| meanings(code).len()));
+        let carried = 4 * CODES.iter().filter(|&&code| carries(code)).count();
+        assert_eq!(faults.len(), numbers.sum::<usize>() + carried + 3 + WAYS.len());
+    }
+
+    #[test]
+    fn a_number_that_may_not_be_answered_is_a_fault() {
+        let mut coverage = Coverage::default();
+        coverage.answer(Call::Check, 3);
+        coverage.answer(Call::Check, 18);
+        coverage.operator(0x51, 6);
+        for fault in ["check answered 3, 1 times", "check answered 18", "flip 1 answered 6, 1 times"] {
+            assert!(missed(&coverage, fault), "{fault}");
         }
     }
-    faults
-}
 
-fn heading(first: &str, numbers: impl Iterator<Item = usize>) {
-    let numbers: Vec<String> = numbers.map(|number| format!("{number:>6}")).collect();
-    println!("{first:<14} {}", numbers.join(" "));
-}
-
-fn row<'a>(name: &str, counts: impl Iterator<Item = &'a u64>) {
-    let shown = |&count: &u64| {
-        if count == 0 {
-            "     .".into()
-        } else {
-            format!("{count:>6}")
+    #[test]
+    fn only_a_chain_that_tells_something_counts() {
+        let mut coverage = Coverage::default();
+        let fault = "carry flip 2 never accepted a chain of dimension 2";
+        for (chain, number) in [([0, 0], 0), ([5, 0], 0), ([0, 5], 16)] {
+            coverage.carried(&[0x52, 1], 2, &chain, number);
+            assert!(missed(&coverage, fault));
         }
-    };
-    let counts: Vec<String> = counts.map(shown).collect();
-    println!("{name:<14} {}", counts.join(" "));
+        coverage.carried(&[0x52, 1], 2, &[0, 5], 0);
+        assert!(!missed(&coverage, fault));
+        let fault = "boundary never accepted a chain of dimension 3";
+        for (chain, number) in [([0, 0], 0), ([5, 0], 2)] {
+            coverage.bounded(3, &chain, number);
+            assert!(missed(&coverage, fault));
+        }
+        coverage.bounded(3, &[5, 0], 0);
+        assert!(!missed(&coverage, fault));
+    }
+
+    #[test]
+    fn only_a_pattern_that_is_not_good_counts_as_spoiled() {
+        let mut coverage = Coverage::default();
+        coverage.damaged(0, 0);
+        assert!(missed(&coverage, "count over 96 never met refusal 2"));
+        coverage.damaged(0, 2);
+        assert!(!missed(&coverage, "count over 96 never met refusal 2"));
+    }
+
+    #[test]
+    fn both_halves_are_added() {
+        let [mut first, mut second] = [(); 2].map(|()| Coverage::default());
+        first.damaged(3, 2);
+        second.damaged(4, 2);
+        second.bounded(1, &[1], 0);
+        first.add(second);
+        for fault in
+            ["entry outside never met refusal 2", "seam: no tail never met refusal 2", "boundary never accepted a chain of dimension 1"]
+        {
+            assert!(!missed(&first, fault), "{fault}");
+        }
+    }
 }

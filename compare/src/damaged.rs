@@ -31,8 +31,23 @@ pub fn bytes(random: &mut Random, bytes: &[u8]) -> Vec<u8> {
     changed
 }
 
-/// How many ways `spoiled` has.
-pub const WAYS: usize = 14;
+/// The ways of `spoiled`.
+pub const WAYS: [&str; 14] = [
+    "count over 96",
+    "any entry 2",
+    "inside entry 2",
+    "entry outside",
+    "seam: no tail",
+    "seam: no head",
+    "seam: 2 tails",
+    "seam: 2 heads",
+    "no faces",
+    "panel entry",
+    "block entry",
+    "face turned",
+    "count + 1",
+    "count - 1",
+];
 
 /// The pattern, no longer good in one way; as it was where it has no cell for that way.
 pub fn spoiled(random: &mut Random, pattern: &Pattern, way: usize) -> Pattern {
@@ -117,7 +132,7 @@ pub fn resized(random: &mut Random, pattern: &Pattern) -> Pattern {
 pub fn lent(random: &mut Random, pattern: &Pattern) -> Pattern {
     match random.below(16) {
         0 => {
-            let way = random.below(WAYS);
+            let way = random.below(WAYS.len());
             spoiled(random, pattern, way)
         }
         1 if random.one_in(2) => resized(random, pattern),

@@ -61,3 +61,19 @@ pub fn hex<T: LowerHex + PartialEq>(entries: &[T]) -> String {
     }
     format!("({} long) {}", entries.len(), words.join(" "))
 }
+
+#[cfg(test)]
+mod tests {
+    use super::*;
+
+    #[test]
+    fn a_change_of_one_half_is_found_in_the_margins_too() {
+        for at in 0..3 + 2 * MARGIN {
+            let mut twice = Twice::of(&[7u8, 8, 9]);
+            assert_eq!(twice.difference("out"), None);
+            twice.both[0][at] ^= 1;
+            let place = at as isize - MARGIN as isize;
+            assert!(twice.difference("out").map_or(false, |text| text.starts_with(&format!("out[{place}]: engine"))));
+        }
+    }
+}

@@ -46,9 +46,9 @@ impl Sweeps<'_> {
         }
     }
 
-    /// Every call on the pattern.
-    fn every_call(&mut self, pattern: &Pattern, operator: &[u8]) {
-        self.comparison.check(pattern);
+    /// Every call on the pattern; what `check` answers.
+    fn every_call(&mut self, pattern: &Pattern, operator: &[u8]) -> u8 {
+        let answer = self.comparison.check(pattern);
         self.comparison.euler(pattern);
         let out = self.random.junk(64);
         self.comparison.write_mesh(pattern, &out);
@@ -57,13 +57,15 @@ impl Sweeps<'_> {
         let chain = Chain { dimension: 1, coefficients: &[0; LIMIT], out: &[7; LIMIT] };
         self.comparison.boundary(pattern, &chain);
         self.comparison.carry(pattern, operator, &chain);
+        answer
     }
 
     pub fn spoiled(&mut self, pattern: &Pattern) {
-        for way in 0..WAYS {
+        for way in 0..WAYS.len() {
             for _ in 0..2 {
                 let spoiled = spoiled(&mut self.random, pattern, way);
-                self.every_call(&spoiled, &[0x10]);
+                let answer = self.every_call(&spoiled, &[0x10]);
+                self.comparison.coverage.damaged(way, answer);
             }
         }
     }

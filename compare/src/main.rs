@@ -9,6 +9,7 @@ mod chains;
 mod corpus;
 mod coverage;
 mod damaged;
+mod engine;
 mod inputs;
 mod lending;
 mod limits;

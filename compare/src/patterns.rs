@@ -1,5 +1,6 @@
 //! A lent pattern, and what the generators ask a sound one.
 
+use crate::engine;
 use second::LIMIT;
 
 pub const MATRIX_LENGTH: usize = LIMIT * LIMIT;
@@ -41,10 +42,14 @@ impl Pattern {
     /// Runs one operator; whether it was accepted. This is only to find operators to compare with,
     /// so the faster of the two does it.
     pub fn apply(&mut self, operator: &[u8]) -> bool {
-        let [m1, m2, m3] = &mut self.matrices;
-        let (refusal, counts) = mbyasoka::calls::apply_operator(self.counts, [m1, m2, m3], operator);
+        let (refusal, counts) = engine::apply_operator(self.counts, self.lent(), &mut operator.to_vec());
         self.counts = counts;
         refusal == 0
+    }
+
+    pub fn lent(&mut self) -> engine::Matrices<'_> {
+        let [m1, m2, m3] = &mut self.matrices;
+        [m1, m2, m3]
     }
 
     pub fn count(&self, dim: usize) -> usize {

@@ -48,7 +48,9 @@ impl<'a> Rounds<'a> {
             20..=39 => self.operator(&pattern, &sound),
             40..=51 => self.read(&pattern, &sound),
             52..=58 => self.write(&pattern),
-            59..=63 => self.comparison.check(&pattern),
+            59..=63 => {
+                self.comparison.check(&pattern);
+            }
             64..=66 => self.comparison.euler(&pattern),
             67..=78 => self.script(&pattern, &sound, size),
             79..=87 => self.boundary(&pattern),
