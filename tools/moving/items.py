@@ -13,6 +13,7 @@ CODE = re.compile(
     r'(?:#\[[^\]]*\]\s*)*(?P<seen>pub(?:\(\w+\))?\s+)?(?:extern\s+"[^"]*"\s+)?(?:const\s+(?=fn))?'
     r'\b(?P<kind>fn|struct|enum|const|impl|mod)\s+(?P<name>\w+)'
 )
+OPENER = re.compile(r'[(\[{;]')
 
 
 @dataclass(frozen=True)
@@ -90,7 +91,7 @@ def closing(mask, at):
 def parts(mask, at, kind):
     """Where the body of the item begins and where the item ends; without a body both are the same."""
     while True:
-        at = re.compile(r'[(\[{;]').search(mask, at).start()
+        at = OPENER.search(mask, at).start()
         if mask[at] == ';':
             return at, at + 1
         if mask[at] == '{' and kind != 'const' and not mask[:at].rstrip().endswith(('requires', 'ensures')):

@@ -10,14 +10,13 @@ from pathlib import PurePosixPath
 from .items import antt_items, rattle_items
 
 PARTS = {'src': '.rt', 'specs': '.antt', 'proofs': '.antt'}
-KINDS = ('definitions', 'types', 'contracts', 'lemmas')
 
 
 @dataclass
 class Crate:
     """For each kind the items, each with its place in the crate; for each part the number of lines."""
 
-    items: dict = field(default_factory=lambda: {kind: [] for kind in KINDS})
+    items: dict = field(default_factory=lambda: defaultdict(list))
     lines: Counter = field(default_factory=Counter)
 
 
@@ -43,8 +42,8 @@ def kind_of(part, item):
     return {'specs': 'definitions', 'proofs': 'lemmas'}.get(part) or ('contracts' if item.kind == 'fn' else 'types')
 
 
-def files(commit, repository='.'):
-    """Path and text of each file of the commit's crates; the working tree is not looked at."""
+def files(commit, repository):
+    """Path and bytes of each file of the commit's crates; the working tree is not looked at."""
     tree = subprocess.run(['git', '-C', repository, 'archive', commit, 'crates'], stdout=subprocess.PIPE, check=True).stdout
     with tarfile.open(fileobj=io.BytesIO(tree)) as archive:
         for entry in archive:
@@ -52,16 +51,15 @@ def files(commit, repository='.'):
                 yield PurePosixPath(entry.name), archive.extractfile(entry).read()
 
 
-def crates(commit, repository='.'):
+def crates(commit, repository):
     found = defaultdict(Crate)
     for path, content in files(commit, repository):
-        _, name, part, *_ = *path.parts, ''
-        if path.suffix != PARTS.get(part):
+        if len(path.parts) < 4 or path.suffix != PARTS.get(path.parts[2]):
             continue
-        text = content.decode()
-        found[name].lines[part] += text.count('\n')
+        text, part, crate = content.decode(), path.parts[2], found[path.parts[1]]
+        crate.lines[part] += text.count('\n')
         for item in (rattle_items if part == 'src' else antt_items)(text):
-            found[name].items[kind_of(part, item)].append(placed(part, path, item))
+            crate.items[kind_of(part, item)].append(placed(part, path, item))
     return found
 
 
@@ -82,6 +80,9 @@ def paired(old, new):
         for i in new:
             waiting[key(i)].append(i)
         for i in old:
-            pairs.append((i, waiting[key(i)].pop(0))) if waiting[key(i)] else left.append(i)
+            if waiting[key(i)]:
+                pairs.append((i, waiting[key(i)].pop(0)))
+            else:
+                left.append(i)
         old, new = left, [i for some in waiting.values() for i in some]
     return pairs + [(i, None) for i in old] + [(None, i) for i in new]
