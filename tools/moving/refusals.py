@@ -10,7 +10,8 @@ from pathlib import PurePosixPath
 
 from .items import antt_items, rattle_items
 
-REFUSED = re.compile(r'^rt: must-fail \S+: refused, as it must be \(first at (\S+):(\d+):\d+; ', re.M)
+ERROR = re.compile(r'^(\S+):(\d+):\d+: error: (?!.*so this cannot be checked)', re.M)
+NOTE = re.compile(r'^note: (\S+):(\d+):\d+: ', re.M)
 WORD = re.compile(r'`([^`]+)`')
 EDIT = re.compile(r'(?:(\w+)/(?:must-fail/)?)?(\w+)')
 NAMES = re.compile(r'`[^`]+`(?:, `[^`]+`)*')
@@ -46,13 +47,19 @@ def name_at(folder, file, line):
 
 
 def place(room, crate, edit):
-    """What `rt must-fail` left of one edit: what it printed, and the edited crate. None where it refused nothing, or named no place."""
-    said = room / crate / f'{edit}.out'
-    found = REFUSED.search(said.read_text()) if said.is_file() else None
+    """The first fault in the log of an edit that `rt must-fail` found refused, or None.
+
+    An error that only says that something else is not proved is passed over: with `first at` rt may name such a one.
+    """
+    folder, verdict = room / crate / edit, room / crate / f'{edit}.res'
+    if not verdict.is_file() or verdict.read_text().strip() != 'refused':
+        return None
+    log = (folder / '.log').read_text()
+    found = ERROR.search(log) or NOTE.search(log)
     if not found:
         return None
-    file, line = found[1], int(found[2])
-    return Place(name_at(room / crate / edit, file, line), file, line)
+    file, line = found[1].rpartition(f'/must-fail/{crate}/{edit}/')[2], int(found[2])
+    return Place(name_at(folder, file, line), file, line)
 
 
 def edits_in(cells, known):
@@ -89,7 +96,7 @@ def rows(text, known):
 def faults(found, told):
     """What is not so in the rows of one edit."""
     if found is None:
-        return ['the checker has named no place: run `rt must-fail`']
+        return ['no log says where it is refused: run `rt must-fail`']
     if not told:
         return ['no row says what refuses it']
     wrong = []

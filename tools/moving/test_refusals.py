@@ -8,12 +8,15 @@ from .refusals import report
 
 CODE = 'use x;\n\npub fn seven() -> u8\n    ensures { λ r. ⌜ r ≡ 7 ⌝ }\n{\n    8\n}\n\nfn other() {\n}\n'
 LAWS = 'pub first : ℕ\nfirst = 1\n\nmodule _ (c : ℕ) where\n  pub second : ℕ\n  second =\n      2\n'
-PLACES = {
-    'code': 'first at src/lib.rt:6:5; ',
-    'proof': 'first at proofs/lists/entry_form/Proof.antt:10:13; ',
-    'law': 'first at proofs/Laws.antt:7:7; ',
-    'law_again': 'first at proofs/Laws.antt:6:3; ',
-    'nowhere': '',
+NOTE = 'note: ROOM/src/lib.rt:6:5: it is not proved that what the function ensures holds\nnote: what antt said: ROOM/src/lib.rt:9:8: x\n'
+CAUSED = 'ROOM/proofs/first/Proof.antt:3:5: error: `first-spec`: `close` was not admitted, so this cannot be checked\n'
+LOGS = {
+    'code': NOTE,
+    'caused': CAUSED + NOTE,
+    'proof': 'ROOM/proofs/lists/entry_form/Proof.antt:10:13: error: `returns`: x\n' + CAUSED + NOTE,
+    'law': CAUSED + 'ROOM/proofs/Laws.antt:7:7: error: `second`: x\n  y\nROOM/proofs/Laws.antt:2:1: error: `first`: x\n',
+    'law_again': 'ROOM/proofs/Laws.antt:6:3: error: `second`: x\n',
+    'nowhere': 'logic=not-proved\n',
 }
 HEAD = '| edit | what is wrong | what refuses it |\n|---|---|---|\n'
 
@@ -28,12 +31,13 @@ class Refusals(unittest.TestCase):
         (self.root / path).parent.mkdir(parents=True, exist_ok=True)
         (self.root / path).write_text(text)
 
-    def tried(self, edit, said=None):
+    def tried(self, edit, verdict='refused'):
+        room = f'target/must-fail/form/{edit}'
         self.write(f'crates/form/must-fail/{edit}.edit', '')
-        self.write(f'target/must-fail/form/{edit}/src/lib.rt', CODE)
-        self.write(f'target/must-fail/form/{edit}/proofs/Laws.antt', LAWS)
-        said = said or f'refused, as it must be ({PLACES[edit]}5 s)'
-        self.write(f'target/must-fail/form/{edit}.out', f'rt: must-fail form/{edit}: {said}\n')
+        self.write(f'{room}/src/lib.rt', CODE)
+        self.write(f'{room}/proofs/Laws.antt', LAWS)
+        self.write(f'{room}/.log', LOGS[edit].replace('ROOM', str(self.root / room)))
+        self.write(f'{room}.res', verdict + '\n')
 
     def said(self, rows, *only):
         self.write('docs/PROOFS.md', HEAD + rows + '\n')
@@ -59,6 +63,10 @@ class Refusals(unittest.TestCase):
         told = 'form/code: `seven`, src/lib.rt:6'
         self.assertEqual(self.said('| `form/code` | x | `seven`: no proof is found |'), ([told], 0))
         self.assertEqual(self.said('| `form/code` | x | `seven` |'), ([told + '; WRONG: its row does not say "no proof"'], 1))
+
+    def test_what_follows_from_another_fault_is_passed_over(self):
+        self.tried('caused')
+        self.assertEqual(self.said('| `form/caused` | x | `seven`: no proof is found |'), (['form/caused: `seven`, src/lib.rt:6'], 0))
 
     def test_several_edits_in_a_row(self):
         self.tried('law')
@@ -91,8 +99,8 @@ class Refusals(unittest.TestCase):
 
     def test_not_refused_not_tried_no_place(self):
         self.tried('nowhere')
-        self.tried('law', 'NOT REFUSED: the crate is still proved with this edit (5 s)')
+        self.tried('law', 'survived')
         self.write('crates/form/must-fail/new.edit', '')
         lines, bad = self.said('| `form/law`, `nowhere`, `new` | x | `second` |')
         self.assertEqual(bad, 3)
-        self.assertTrue(all(line.endswith('?; WRONG: the checker has named no place: run `rt must-fail`') for line in lines))
+        self.assertTrue(all(line.endswith('?; WRONG: no log says where it is refused: run `rt must-fail`') for line in lines))
