@@ -2,3 +2,5 @@ pub mod Fields
 pub mod Listed
 pub mod Faces
 pub mod Decoded
+pub mod Alike
+pub mod Alone
