@@ -3,4 +3,5 @@ pub mod Listed
 pub mod Faces
 pub mod Decoded
 pub mod Alike
+pub mod Copied
 pub mod Alone

@@ -22,9 +22,11 @@ pub record SameFaces (F G : Faces) : Type 0 where
   pub numbers : (l : ℕ) → l < F .n → F .number l ≡ G .number l
   pub signs : (l : ℕ) → l < F .n → F .sign l ≡ G .sign l
 
+-- no faces
 pub same-none : SameFaces none none
 same-none = record { count = refl; numbers = λ l h. refl; signs = λ l h. refl }
 
+-- what a step asks of the faces is the same
 module _ {F G : Faces} (same : SameFaces F G) where
   same-chain : chainOf F ≡ chainOf G
   unfolding chainOf
@@ -44,6 +46,7 @@ module _ {F G : Faces} (same : SameFaces F G) where
   unfolding chosen listed
   same-chosen k v = fun-ext λ i. ap (λ t. cond (eqb k 1) (eqZ (v i) (pos 1)) (not t)) (same-all (λ x. not (eqb i x)))
 
+  -- and so is the step
   same-make : (k : ℕ) (X : Complex) → makeStep k F X ≡ makeStep k G X
   unfolding makeStep
   same-make k X = rw (same-chain, same-below)
@@ -52,26 +55,27 @@ module _ {F G : Faces} (same : SameFaces F G) where
   unfolding splitStep
   same-split k c X = rw (same-chosen, same-below)
 
--- the operator `own` of the bytes u is the operator o of the bytes s: they may differ in the place of their lists
-pub data Same (u s : List ℕ) : Operator → Operator → Type 0 where
-  makes : {k q p : ℕ} → SameFaces (madeOf u k q) (madeOf s k p) → Same u s (Make k q) (Make k p)
-  splits : {k c q p : ℕ} → SameFaces (chosenOf u k q) (chosenOf s k p) → Same u s (Split k c q) (Split k c p)
-  others : (o : Operator) → facesOf u o ≡ facesOf s o → Same u s o o
+-- the operator `own` of the bytes u and the operator o of the bytes s: they may differ in the place of their list
+pub data Alike (u s : List ℕ) : Operator → Operator → Type 0 where
+  makes : {k q p : ℕ} → SameFaces (madeOf u k q) (madeOf s k p) → Alike u s (Make k q) (Make k p)
+  splits : {k c q p : ℕ} → SameFaces (chosenOf u k q) (chosenOf s k p) → Alike u s (Split k c q) (Split k c p)
+  others : (o : Operator) → facesOf u o ≡ facesOf s o → Alike u s o o
 
+-- they do the same, with the same refusals, and move the Euler number alike
 module _ {u s : List ℕ} where
-  pub same-steps : {own o : Operator} → Same u s own o → (X : Complex) → step own (facesOf u own) X ≡ step o (facesOf s o) X
+  pub alike-steps : {own o : Operator} → Alike u s own o → (X : Complex) → step own (facesOf u own) X ≡ step o (facesOf s o) X
   unfolding step
-  same-steps (makes {k = k} f) X = same-make f k X
-  same-steps (splits {k = k} {c = c} f) X = same-split f k c X
-  same-steps (others o e) X = ap (λ F. step o F X) e
+  alike-steps (makes {k = k} f) X = same-make f k X
+  alike-steps (splits {k = k} {c = c} f) X = same-split f k c X
+  alike-steps (others o e) X = ap (λ F. step o F X) e
 
-  pub same-carries : {own o : Operator} → Same u s own o → (X : Complex) → carryStep own (facesOf u own) X ≡ carryStep o (facesOf s o) X
+  pub alike-carries : {own o : Operator} → Alike u s own o → (X : Complex) → carryStep own (facesOf u own) X ≡ carryStep o (facesOf s o) X
   unfolding carryStep
-  same-carries (makes f) X = same-steps (makes f) X
-  same-carries (splits f) X = same-steps (splits f) X
-  same-carries (others o e) X = ap (λ F. carryStep o F X) e
+  alike-carries (makes f) X = alike-steps (makes f) X
+  alike-carries (splits f) X = alike-steps (splits f) X
+  alike-carries (others o e) X = ap (λ F. carryStep o F X) e
 
-  pub same-amount : {own o : Operator} → Same u s own o → amountOf own ≡ amountOf o
-  same-amount (makes f) = refl
-  same-amount (splits f) = refl
-  same-amount (others o e) = refl
+  pub alike-amount : {own o : Operator} → Alike u s own o → amountOf own ≡ amountOf o
+  alike-amount (makes f) = refl
+  alike-amount (splits f) = refl
+  alike-amount (others o e) = refl
