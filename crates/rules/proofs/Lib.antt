@@ -1,5 +1,3 @@
--- The table of cases
-pub mod Cases
 -- Sequences, layers and columns, and what their tests say
 pub mod layers
 -- Branches of the definitions, the numbers of refusals, and the tests that come first
@@ -20,3 +18,5 @@ pub mod scripts
 pub mod texts
 -- The calls that users see: limits, refusals, outcomes, and the demands
 pub mod calls
+-- The table of cases
+pub mod Cases

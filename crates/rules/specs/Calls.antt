@@ -57,6 +57,10 @@ readCall s p =
     lent (record { counts = countsOf X; used = used; refusal = accepted }) (stored X))
     (lent (noMesh wrongLength) p)
 
+-- the pattern that reading leaves
+abbrev pub meshLeft : Lent MeshRead → Pattern
+meshLeft l = pattern (l .answer .counts) (l .m1) (l .m2) (l .m3)
+
 -- Writing: "touches the first bytes it reports and no other; a refused writer reports 0 and touches nothing"
 pub record Wrote : Type 0 where
   pub answer : MeshWritten

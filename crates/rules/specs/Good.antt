@@ -7,7 +7,7 @@ use lib.Dec.{eqb, ltb, leb}
 use lib.IntN.{ℤ, pos, negsuc, natAbs}
 use Rattle.maths.specs.Tests.{eqZ, isZero, isUnit, all, count}
 use Rattle.maths.specs.Sums.{dot}
-use Rattle.rules.specs.Complex.{Layer, Complex, Chain}
+use Rattle.rules.specs.Complex.{Pattern, Sized, Layer, Complex, Chain, complex}
 
 -- how often v has the value z
 abbrev pub times : ℤ → Chain → ℕ
@@ -36,7 +36,12 @@ pub record Good (X : Complex) : Type 0 where
   pub ground : (i j : ℕ) → X 0 .d i j ≡ pos 0
   pub top : (k : ℕ) → 3 < k → X k .n ≡ 0
 
--- the same as tests
+-- a stored pattern that is good, of the right lengths
+pub record Held (p : Pattern) : Type 0 where
+  pub sized : Sized p
+  pub good : Good (complex p)
+
+-- good as a test
 
 unfoldable pub oneEach : Chain → Bool
 oneEach v = eqb (times (negsuc 0) v) 1 && eqb (times (pos 1) v) 1

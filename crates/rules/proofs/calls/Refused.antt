@@ -97,7 +97,7 @@ euler-refused p =
 
 -- "A refused chain call leaves its output unchanged"
 pub boundary-refused : (p : Pattern) (d : ℕ) (c out : List ℤ) → boundaryCall p d c out .refusal ≢ accepted → boundaryCall p d c out .out ≡ out
-boundary-refused p d c out = boundary-call-each (λ g. g .refusal ≢ accepted → g .out ≡ out) p d c out (λ r _ n. refl) (λ g w n. absurd (n refl))
+boundary-refused p d c out = boundary-call-each (λ g. g .refusal ≢ accepted → g .out ≡ out) p d c out (λ r _ n. refl) (λ B n. absurd (n refl))
 
 pub carry-refused : (p : Pattern) (s : List ℕ) (d : ℕ) (c out : List ℤ) → carryCall p s d c out .refusal ≢ accepted → carryCall p s d c out .out ≡ out
-carry-refused p s d c out = carry-call-each (λ g. g .refusal ≢ accepted → g .out ≡ out) p d c out (λ r _ n. refl) s (λ l o S q w n. absurd (n refl))
+carry-refused p s d c out = carry-call-each (λ g. g .refusal ≢ accepted → g .out ≡ out) p d c out (λ r _ n. refl) s (λ S C n. absurd (n refl))

@@ -24,15 +24,15 @@ module _ (c : ℕ) (A : Layer) where
 
   pub without-ground : ((i j : ℕ) → A .d i j ≡ pos 0) → (i j : ℕ) → withoutColumn c A .d i j ≡ pos 0
   unfolding withoutColumn
-  without-ground z i j = z i (up c j)
+  without-ground z i j = z i _
 
   pub fit-without-column : (K : Layer) → c < A .n → Fit K A → Fit K (withoutColumn c A)
   unfolding withoutColumn
   fit-without-column K l F = record {
     few = without-few (F .few);
-    rows = λ i j h. F .rows i (up c j) h;
+    rows = λ i j h. F .rows i _ h;
     columns = λ i j h. F .columns i (up c j) (up-past c (A .n) j l h);
-    null = λ r j. F .null r (up c j);
+    null = λ r j. F .null r _;
   }
 
   pub fit-without-row : (W : Layer) → Fit A W → Fit (withoutRow c A) W

@@ -5,12 +5,12 @@ use mathlib.Core.Bool.{Bool}
 use Prim.Native.Nat.{ℕ, suc, _<_, _≤_}
 use native.Mathlib.Omega.{arith}
 use borrow.Author.Tests.{ne-eqb}
-use lib.IntN.{ℤ, pos, negℤ, _+ℤ_, _-ℤ_, _*ℤ_, +ℤ-idl, +ℤ-idr, *ℤ-comm, *ℤ-zero}
+use lib.IntN.{ℤ, pos, negsuc, negℤ, _+ℤ_, _-ℤ_, _*ℤ_, +ℤ-idl, +ℤ-idr, *ℤ-comm, *ℤ-zero}
 use Rattle.maths.specs.Sums.{dot, δ}
-use Rattle.maths.proofs.Integers.{*ℤ-1, *ℤ-minus-one, ints}
+use Rattle.maths.proofs.Integers.{*ℤ-distr-r, *ℤ-distr-l, sorted, ints}
 use Rattle.maths.proofs.Cases.{eqb-same, eq-or}
 use Rattle.maths.proofs.Sums.{δ-same, δ-no}
-use Rattle.maths.proofs.Dots.{dot-+l, dot-+r, dot-*l, dot-neg-l, dot-neg-r, dot-δ-l, dot-δ-r, dot-0-l, dot-assoc, dot-rank1}
+use Rattle.maths.proofs.Dots.{dot-+l, dot-+r, dot-*l, dot-*r, dot-neg-l, dot-neg-r, dot-δ-l, dot-δ-r, dot-0-l, dot-assoc, dot-rank1}
 use Rattle.rules.specs.Complex.{Layer, Complex, Chain}
 use Rattle.rules.specs.Edits.{Step, kept, layers, put, boundary, part, divider, halves, repeated, split}
 use Rattle.rules.proofs.layers.Changes.{put-same, put-no, put-is, put-zero, part-zero, rest-is}
@@ -24,15 +24,15 @@ use Rattle.rules.proofs.edits.Makes.{added, added-is, added-ground, add
 put-front : (t : ℕ) (z : ℤ) (c : Chain) → c t ≡ pos 0 → put t z c ≡ (λ i. c i +ℤ δ t i *ℤ z)
 put-front t z c h = put-is t z c h ∙ fun-ext λ i. rw (*ℤ-comm z (δ t i))
 
--- z more at a and less at b is a sum
-put-two : (a b : ℕ) (c : Chain) (z : ℤ) {x y : ℤ} → a ≢ b → x ≡ c a +ℤ z → y ≡ c b -ℤ z → (j : ℕ) →
-    put a x (put b y c) j ≡ c j +ℤ z *ℤ (δ a j -ℤ δ b j)
-put-two a b c z ne p q j = eq-or j a
-    (λ e. rw (e, put-same, p, δ-same, δ-no b a ne, *ℤ-1))
+-- z more at a and w more at b is a sum
+put-two : (a b : ℕ) (c : Chain) (z w : ℤ) {x y : ℤ} → a ≢ b → x ≡ c a +ℤ z → y ≡ c b +ℤ w → (j : ℕ) →
+    put a x (put b y c) j ≡ c j +ℤ (z *ℤ δ a j +ℤ w *ℤ δ b j)
+put-two a b c z w ne p q j = eq-or j a
+    (λ e. rw (e, put-same, p, δ-same, δ-no b a ne) (simp ints))
     (λ e. rw (put-no a _ (put b _ c) j e, δ-no a j e)
     (eq-or j b
-    (λ f. rw (f, put-same, q, δ-same, *ℤ-minus-one))
-    (λ f. rw (put-no b _ c j f, δ-no b j f, *ℤ-zero, +ℤ-idr))))
+    (λ f. rw (f, put-same, q, δ-same) (simp ints))
+    (λ f. rw (put-no b _ c j f, δ-no b j f) (simp ints))))
 
 pub boundary-0 : (A : Layer) (c : Chain) (r : ℕ) → ((j : ℕ) → A .d r j ≡ pos 0) → boundary A c r ≡ pos 0
 unfolding boundary
@@ -77,13 +77,13 @@ module _ (s : ℕ) (p : ℕ → Bool) (L D U : Layer) (R : Room s L D U) where
   other = omega arith
 
   -- each of the three is the old layer and a column times a row
-  halves-is : halves s p L D ≡ record { n = suc (D .n); d = λ i j. D .d i j +ℤ (δ (L .n) i -ℤ part p (λ i. D .d i s) i) *ℤ (δ s j -ℤ δ (D .n) j) }
+  halves-is : halves s p L D ≡ record { n = suc (D .n); d = λ i j. D .d i j +ℤ ((δ (L .n) i -ℤ part p (λ i. D .d i s) i) *ℤ δ s j +ℤ (negℤ (δ (L .n) i) +ℤ part p (λ i. D .d i s) i) *ℤ δ (D .n) j) }
   unfolding halves
   halves-is = same-layer refl λ i j.
       let v : Chain = λ i. D .d i s in
       eq-or i (L .n)
-      (λ e. rw (e, eqb-same, δ-same, part-zero p v (L .n) (row-0 s), row-0 j) (put-two s (D .n) (λ j. pos 0) (pos 1) other refl refl j))
-      (λ e. rw (ne-eqb i (L .n) e, δ-no (L .n) i e, +ℤ-idl) (put-two s (D .n) (D .d i) (negℤ (part p v i)) other (rest-is p v i) (rw column-0 (simp ints)) j))
+      (λ e. rw (e, eqb-same, δ-same, part-zero p v (L .n) (row-0 s), row-0 j) (put-two s (D .n) (λ j. pos 0) (pos 1) (negsuc 0) other refl refl j))
+      (λ e. rw (ne-eqb i (L .n) e, δ-no (L .n) i e, +ℤ-idl, +ℤ-idl) (put-two s (D .n) (D .d i) (negℤ (part p v i)) (part p v i) other (rest-is p v i) (rw column-0 (simp ints)) j))
 
   repeated-is : repeated s D U ≡ record { n = U .n; d = λ i j. U .d i j +ℤ δ (D .n) i *ℤ U .d s j }
   unfolding repeated
@@ -108,7 +108,7 @@ module _ (s : ℕ) (p : ℕ → Bool) (L D U : Layer) (R : Room s L D U) where
         simp (z, δ-no, ints);
     null = λ r j.
         let l : L .n < 96 = R .room-below in
-        simp (divider-is, R .here .null, dot-rank1, dot-+r, dot-neg-r, dot-δ-r, dot-δ-l, left-0, row-0, part-zero, δ-same, ints);
+        simp (divider-is, R .here .null, dot-+l, dot-*l, dot-+r, dot-*r, dot-neg-r, dot-δ-r, dot-δ-l, left-0, row-0, part-zero, δ-same, ints) (simp (*ℤ-distr-r, *ℤ-distr-l, sorted, ints));
   })
 
   fit-repeated : Fit (halves s p L D) (repeated s D U)
@@ -123,7 +123,7 @@ module _ (s : ℕ) (p : ℕ → Bool) (L D U : Layer) (R : Room s L D U) where
         let l : s < 96 = omega arith in
         let l' : D .n < 96 = R .room in
         let e : D .n ≢ s = omega arith in
-        simp (R .above .null, dot-rank1, dot-+l, dot-neg-l, dot-δ-r, dot-δ-l, column-0, above-0, δ-same, δ-no, ints);
+        simp (R .above .null, dot-+l, dot-*l, dot-+r, dot-*r, dot-neg-l, dot-δ-r, dot-δ-l, column-0, above-0, δ-same, δ-no, ints) (simp (*ℤ-distr-r, *ℤ-distr-l, sorted, ints));
   })
 
   fit-over : (W : Layer) → Fit U W → Fit (repeated s D U) W
@@ -146,7 +146,7 @@ module _ (s : ℕ) (p : ℕ → Bool) (L D U : Layer) (R : Room s L D U) where
       let l' : D .n < 96 = R .room in
       let e : D .n ≢ s = omega arith in
       rw (put-zero (L .n) (boundary D c) (boundary-0 D c (L .n) row-0), put-front (D .n) (c s) c z, halves-is)
-      (simp (dot-rank1, dot-+l, dot-neg-l, dot-δ-r, dot-δ-l, δ-same, δ-no, z, column-0, ints))
+      (simp (dot-+l, dot-*l, dot-+r, dot-*r, dot-neg-l, dot-δ-r, dot-δ-l, δ-same, δ-no, z, column-0, ints) (simp (*ℤ-distr-r, *ℤ-distr-l, sorted, ints)))
 
   maps-repeated : Maps (halved s p L D) U (kept (repeated s D U))
   unfolding boundary

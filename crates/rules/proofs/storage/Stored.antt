@@ -13,7 +13,7 @@ use Rattle.maths.proofs.Tables.{clip-keeps, entries-tab, tab-entries, length-ta
 use Rattle.maths.proofs.Cases.{lt-or, and-left, and-right, and-both}
 use Rattle.rules.specs.Counts.{countOf}
 use Rattle.rules.specs.Complex.{Pattern, Sized, Complex, layer, complex, stored}
-use Rattle.rules.specs.Good.{Good}
+use Rattle.rules.specs.Good.{Good, Held}
 use Rattle.rules.specs.Calls.{sized}
 use Rattle.rules.proofs.layers.Frame.{same-layer, within-rows, within-columns}
 
@@ -59,6 +59,10 @@ lengths p e =
 
 pub stored-sized : (X : Complex) → Sized (stored X)
 stored-sized X = record { four = refl; size1 = length-tab (X 1 .d); size2 = length-tab (X 2 .d); size3 = length-tab (X 3 .d) }
+
+-- what a good complex is stored as
+pub stored-held : {X : Complex} → Good X → Held (stored X)
+stored-held {X} G = record { sized = stored-sized X; good = rw (complex-stored G) G }
 
 four-are : (l : List ℕ) → length l ≡ 4 → getD l 0 0 ∷ getD l 1 0 ∷ getD l 2 0 ∷ getD l 3 0 ∷ [] ≡ l
 four-are [] e = absurd (omega arith)

@@ -108,8 +108,9 @@ module _ (s : List ℕ) {X : Complex} {used : ℕ} where
       let z = section-written 2 (y .0) (omega arith) (y .2 .few) (rw (y .2 .kept 3 (omega arith), x .2 .kept 3 (omega arith))) _ (y .3) in
       mesh-text {next = z .1} {C = z .0} b (x .2) (y .2) (z .2) (z .3)
 
+  -- as many bytes as were used
+  pub written-length : readMesh s ≡ taken X used → length (writeMesh X) ≡ used
+  written-length e = omega (arith, text-length (mesh-written e))
+
   pub written-read : readMesh s ≡ taken X used → (used ≤ length s) × (writeMesh X ≡ take used s)
-  written-read e =
-      let t = mesh-written e in
-      let p : length (writeMesh X) ≡ used = omega (arith, text-length t) in
-      (text-within t (omega arith), rw p at (text-is t))
+  written-read e = let t = mesh-written e in (text-within t (omega arith), rw (written-length e) at (text-is t))
