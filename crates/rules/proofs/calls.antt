@@ -6,3 +6,5 @@ pub mod Left
 pub mod RoundTrips
 pub mod ChainMap
 pub mod Undo
+pub mod OneByOne
+pub mod Through

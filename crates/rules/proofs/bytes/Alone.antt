@@ -14,7 +14,7 @@ use Rattle.rules.specs.Form.{operatorAt, loneOperator, facesOf}
 use Rattle.rules.specs.Chains.{carryStep}
 use Rattle.rules.proofs.bytes.Decoded.{decoded}
 use Rattle.rules.proofs.bytes.Alike.{alike-steps, alike-carries, alike-amount}
-use Rattle.rules.proofs.bytes.Copied.{Held, operator-again}
+use Rattle.rules.proofs.bytes.Copied.{Stretch, operator-again}
 
 -- the bytes of s from `at` up to `next`
 abbrev pub bytesFrom : List ℕ → ℕ → ℕ → List ℕ
@@ -42,7 +42,7 @@ unfolding loneOperator
 alone s at {o} {next} e =
     let d = decoded s at e in
     let n : length (bytesFrom s at next) ≡ next - at = bytes-length s at next (d .2) in
-    let H : Held (bytesFrom s at next) at at 0 next (next - at) = record { start = omega arith; stop = omega (arith, d .1); inside = omega arith } in
+    let H : Stretch (bytesFrom s at next) at at 0 next (next - at) = record { start = omega arith; stop = omega (arith, d .1); inside = omega arith } in
     let r = operator-again (bytesFrom s at next) s at (bytes-copied s at next (d .2)) H e in
     record {
       own = r .own;

@@ -24,13 +24,13 @@ use Rattle.rules.proofs.bytes.Decoded.{decoded, seam-bytes}
 use Rattle.rules.proofs.bytes.Alike.{SameFaces, same-none, Alike, makes, splits, others}
 
 -- what stands in the whole from p up to `next` stands in its part u, which starts at `at`, from q up to `next'`
-pub record Held (u : List ℕ) (at p q next next' : ℕ) : Type 0 where
+pub record Stretch (u : List ℕ) (at p q next next' : ℕ) : Type 0 where
   pub start : p ≡ at + q
   pub stop : next ≡ at + next'
   pub inside : next' ≤ length u
 
 -- the same without the first byte
-later : {u : List ℕ} {at p q next next' : ℕ} → Held u at p q next next' → Held u at (p + 1) (q + 1) next next'
+later : {u : List ℕ} {at p q next next' : ℕ} → Stretch u at p q next next' → Stretch u at (p + 1) (q + 1) next next'
 later H = record { start = omega (arith, H .start); stop = H .stop; inside = H .inside }
 
 -- the operator o of s, read again as `form` in u, up to `next`
@@ -72,7 +72,7 @@ module _ (u s : List ℕ) (at : ℕ) (copied : (p q : ℕ) → p ≡ at + q → 
       rw (b .1) (entries-again signed n (a .1) (q + width signed) (a .0) (omega (arith, b .0)) (omega arith) (a .3) ∙ ap Field.Got (omega arith))
 
   -- a list, and the faces that it has
-  module _ {p q next next' : ℕ} (H : Held u at p q next next') where
+  module _ {p q next next' : ℕ} (H : Stretch u at p q next next') where
     list-again : (signed : Bool) → listAt signed s p ≡ Field.Got next → listAt signed u q ≡ Field.Got next'
     unfolding listAt entriesAt
     list-again signed e =
@@ -103,7 +103,7 @@ module _ (u s : List ℕ) (at : ℕ) (copied : (p q : ℕ) → p ≡ at + q → 
         record { count = c; numbers = λ l h. copied (p + 1 + l) (q + 1 + l) (omega arith) (omega (arith, L .next-is)); signs = λ l h. refl }
 
   -- an operator whose operands start at p
-  module _ {o : Operator} {p q next next' : ℕ} (H : Held u at p q next next') where
+  module _ {o : Operator} {p q next next' : ℕ} (H : Stretch u at p q next next') where
     -- s has `was` up to `end`, and u has `own` up to `end'`
     again : {form : OperatorForm} {own was : Operator} (end end' : ℕ) → OperatorForm.Decoded was end ≡ OperatorForm.Decoded o next → end ≡ at + end' →
         form ≡ OperatorForm.Decoded own end' → Alike u s own was → Again u s o form next'
@@ -162,7 +162,7 @@ module _ (u s : List ℕ) (at : ℕ) (copied : (p q : ℕ) → p ≡ at + q → 
         let b = byte-again p q 0 255 (H .start) (omega arith) (a .0) in
         again (p + 1) (q + 1) (a .1) (omega arith) (rw b) (others (f (getD s p 0)) (same (getD s p 0)))
 
-  operands-again : {o : Operator} (p q : ℕ) {next next' : ℕ} → Held u at (p + 1) (q + 1) next next' → (c : Code) →
+  operands-again : {o : Operator} (p q : ℕ) {next next' : ℕ} → Stretch u at (p + 1) (q + 1) next next' → (c : Code) →
       operandsAt s p c ≡ OperatorForm.Decoded o next → Again u s o (operandsAt u q c) next'
   operands-again p q H (Code.Make d) e = make-again H d e
   operands-again p q H (Code.Kill d) e = cell-again H (Kill d) (λ c. refl) e
@@ -171,7 +171,7 @@ module _ (u s : List ℕ) (at : ℕ) (copied : (p q : ℕ) → p ≡ at + q → 
   operands-again p q H (Code.Flip d) e = cell-again H (Flip d) (λ c. refl) e
   operands-again p q H Code.Unknown e = absurd (bad-operator (Fault.Wrong p) e)
 
-  pub operator-again : {o : Operator} {p q next next' : ℕ} → Held u at p q next next' → operatorAt s p ≡ OperatorForm.Decoded o next →
+  pub operator-again : {o : Operator} {p q next next' : ℕ} → Stretch u at p q next next' → operatorAt s p ≡ OperatorForm.Decoded o next →
       Again u s o (operatorAt u q) next'
   unfolding operatorAt
   operator-again {p = p} {q = q} H e =

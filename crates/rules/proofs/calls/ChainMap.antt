@@ -21,7 +21,7 @@ use Rattle.rules.specs.Edits.{Step, layers, boundary}
 use Rattle.rules.specs.Operators.{edited}
 use Rattle.rules.specs.Form.{within, facesOf}
 use Rattle.rules.specs.Chains.{isChain, boundaryLimit, carryLimit}
-use Rattle.rules.specs.Calls.{operatorLeft, applyCall, Given, coefficients, boundaryCall, carryCall}
+use Rattle.rules.specs.Calls.{lent, operatorLeft, applyCall, Given, coefficients, boundaryCall, carryCall}
 use Rattle.rules.proofs.layers.Frame.{Within}
 use Rattle.rules.proofs.bytes.Decoded.{decoded}
 use Rattle.rules.proofs.storage.Stored.{sized-is, stored-held, complex-stored}
@@ -65,10 +65,10 @@ module _ {p : Pattern} (H : Held p) (s : List ℕ) {d : ℕ} {c out : List ℤ} 
   pub carried-edit : Edit (C .operator) (complex p) S
   carried-edit = edit-kept (H .good) s (C .operator) (decoded s 0 (lone-at s (C .form)) .0) (carry-step (C .operator) (facesOf s (C .operator)) (complex p) (C .carried))
 
-  -- what its call leaves
-  pub carried-left : operatorLeft (applyCall p s) ≡ stored (layers S)
+  -- and its call leaves what it makes of the layers
+  pub carried-call : applyCall p s ≡ lent (record { counts = stored (layers S) .counts; refusal = accepted }) (stored (layers S))
   unfolding applyCall
-  carried-left = rw (sized-is (H .sized), good-is (H .good), C .form, carry-step (C .operator) (facesOf s (C .operator)) (complex p) (C .carried))
+  carried-call = rw (sized-is (H .sized), good-is (H .good), C .form, carry-step (C .operator) (facesOf s (C .operator)) (complex p) (C .carried))
 
   pub chain-of : Within (complex p d .n) (coefficients c)
   chain-of = chain-within carryLimit (complex p d .n) c (C .sizes .long) (C .chain)
@@ -79,6 +79,11 @@ module _ {p : Pattern} (H : Held p) (s : List ℕ) {d : ℕ} {c out : List ℤ} 
 
   pub carried-read : coefficients (table 96 (S d .carried (coefficients c))) ≡ S d .carried (coefficients c)
   carried-read = read-table _ (λ i l. carried-of i (omega (arith, carried-edit .kept .good .few d)))
+
+-- two calls that write the same, both accepted
+pub record Commute (x y : Given) : Type 0 where
+  pub taken : x .refusal ≡ accepted
+  pub same : x ≡ y
 
 -- "Carrying a chain's boundary .. gives the boundary of the carried chain"
 module _ {p : Pattern} (H : Held p) (s : List ℕ) {d : ℕ} {c out : List ℤ} {S : ℕ → Step}
@@ -130,18 +135,21 @@ module _ {p : Pattern} (H : Held p) (s : List ℕ) {d : ℕ} {c out : List ℤ} 
       (ap (λ (Y : Complex). record { refusal = accepted; out = table 96 (boundary (Y (suc d)) (S (suc d) .carried f)) }) (complex-stored (E .kept .good))
       ∙ ap (λ (h : Chain). record { refusal = accepted; out = table 96 h }) (fun-ext (E .carries .chain-map d f (chain-of H s C))))
 
-  pub taken-commute : boundaryCall (stored (layers S)) (suc d) (table 96 (S (suc d) .carried f)) x ≡ carryCall p s d (table 96 (boundary (complex p (suc d)) f)) x
-  taken-commute = boundary-takes carried-boundary ∙ both-same ∙ sym (carry-takes boundary-carried)
+  pub taken-commute : Commute (boundaryCall (stored (layers S)) (suc d) (table 96 (S (suc d) .carried f)) x) (carryCall p s d (table 96 (boundary (complex p (suc d)) f)) x)
+  taken-commute = record {
+    taken = rw (boundary-takes carried-boundary);
+    same = boundary-takes carried-boundary ∙ both-same ∙ sym (carry-takes boundary-carried);
+  }
 
 -- the same of the calls alone: where a chain is carried and its boundary is taken, the boundary of what was carried, in the pattern that the operator leaves,
 -- is what the boundary is carried to
 pub calls-commute : {p : Pattern} → Held p → (s : List ℕ) (d : ℕ) (c out x : List ℤ) → length x ≡ 96 →
     carryCall p s (suc d) c out .refusal ≡ accepted → boundaryCall p (suc d) c out .refusal ≡ accepted →
-    boundaryCall (operatorLeft (applyCall p s)) (suc d) (carryCall p s (suc d) c out .out) x ≡ carryCall p s d (boundaryCall p (suc d) c out .out) x
+    Commute (boundaryCall (operatorLeft (applyCall p s)) (suc d) (carryCall p s (suc d) c out .out) x) (carryCall p s d (boundaryCall p (suc d) c out .out) x)
 calls-commute {p} H s d c out x room e e' =
     let C = carry-taken p s (suc d) c out e in
     let B = boundary-taken p (suc d) c out e' in
-    rw (C .2, B .1, carried-left H s (C .1)) (taken-commute H s (C .1) (B .0) x room)
+    rw (C .2, B .1, carried-call H s (C .1)) (taken-commute H s (C .1) (B .0) x room)
 
 -- the bytes of one operator carry in one way
 same-steps : {p : Pattern} {s : List ℕ} {d : ℕ} {c c' out out' : List ℤ} {S S' : ℕ → Step} → CarryTaken p s d c out S → CarryTaken p s d c' out' S' → S' ≡ S
