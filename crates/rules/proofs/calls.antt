@@ -1,7 +1,6 @@
 pub mod Limits
 pub mod ChainCalls
 pub mod Refused
-pub mod Outcomes
 pub mod Left
 pub mod RoundTrips
 pub mod ChainMap
