@@ -24,7 +24,7 @@ pub fn check(counts: Counts, [m1, m2, m3]: Matrices) -> u8 {
 }
 
 /// Refusal, counts, bytes used.
-pub fn read_mesh(bytes: &[u8], [m1, m2, m3]: MatricesMut) -> (u8, Counts, usize) {
+pub fn read_mesh([m1, m2, m3]: MatricesMut, bytes: &[u8]) -> (u8, Counts, usize) {
     let (mut counts, mut used) = ([0; 4], 0);
     let refusal = call!(mbyasoka_read_mesh, [&mut counts], as_mut_ptr [m1, m2, m3], [bytes.as_ptr(), bytes.len(), &mut used]);
     (refusal, counts, used)

@@ -57,7 +57,7 @@ impl Pattern {
 
     /// Reads a mesh from the front of the bytes and answers how many it used; a refused one leaves the empty pattern.
     pub fn read(&mut self, bytes: &[u8]) -> Result<usize, Refusal> {
-        let (refusal, counts, used) = calls::read_mesh(bytes, self.lent_mut());
+        let (refusal, counts, used) = calls::read_mesh(self.lent_mut(), bytes);
         self.counts = counts;
         accepted(refusal, used)
     }

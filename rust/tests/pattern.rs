@@ -85,7 +85,7 @@ fn a_refused_mesh_leaves_the_empty_pattern() {
 fn wrong_lengths_are_refused() {
     let (m, mut short) = ([0; SIZE], [3; SIZE - 1]);
     let (mut m1, mut m2) = ([4; SIZE], [5; SIZE]);
-    assert_eq!(calls::read_mesh(&MESH, [&mut m1, &mut m2, &mut short]), (1, [0; 4], 0));
+    assert_eq!(calls::read_mesh([&mut m1, &mut m2, &mut short], &MESH), (1, [0; 4], 0));
     assert_eq!((m1, m2, short), ([4; SIZE], [5; SIZE], [3; SIZE - 1]));
     assert_eq!(calls::boundary([0; 4], [&m, &m, &m], 1, &[0; 95], &mut [0; 96]), 1);
     assert_eq!(calls::euler([97, 0, 0, 0], [&m, &m, &m]), (2, 0));

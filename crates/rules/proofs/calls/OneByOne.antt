@@ -73,15 +73,15 @@ module _ (s : List ℕ) where
   one-more {at} {next} {ran} {p} {o} Y d c R =
       let rest : Calls s (R .number) next (operatorLeft (callAt s at next p)) (R .place) (R .left) = rw c (R .calls) in
       record {
-    number = suc (R .number);
-    ran-is = R .ran-is ∙ omega arith;
-    place = R .place;
-    left = R .left;
-    held = R .held;
-    now-is = R .now-is;
-    calls = more d (ap (λ (l : Lent Applied). l .answer .refusal) c) rest;
-    last = R .last;
-  }
+        number = suc (R .number);
+        ran-is = R .ran-is ∙ omega arith;
+        place = R .place;
+        left = R .left;
+        held = R .held;
+        now-is = R .now-is;
+        calls = more d (ap (λ (l : Lent Applied). l .answer .refusal) c) rest;
+        last = R .last;
+      }
 
   -- operators in form: the first, and those after it
   first-in-form : (count n m at : ℕ) → operatorsAt s count (suc n) at ≡ Field.Got m →
