@@ -8,6 +8,7 @@ use rules::form::OperatorForm;
 use rules::operator::Operator;
 ghost use mathlib.Core.Path.{_≡_};
 ghost use Rattle.rules.specs.Form.{codeOf, makeAt, splitAt, cellAt, operatorAt, loneOperator};
+ghost use Rattle.form.specs.Cells.{withCell};
 
 // Kind and dimension of a code.
 fn code_of(b: usize) -> Code
@@ -68,51 +69,26 @@ fn split_form(s: &[u8], k: u8, at: usize) -> OperatorForm
     }
 }
 
-// What a kill of dimension k has at `at`: the cell.
-fn kill_form(s: &[u8], k: u8, at: usize) -> OperatorForm
-    ensures { λ r. ⌜ r ≡ cellAt (now (s .entry)) (Operator.Kill k) at ⌝ }
+// The operator with another cell; a make names none.
+fn with_cell(o: Operator, cell: u8) -> Operator
+    ensures { λ r. ⌜ r ≡ withCell o cell ⌝ }
 {
-    match byte_form(s, at, 0, 255) {
-        Field::Bad(f) => OperatorForm::Bad(f),
-        Field::Got(cell) => OperatorForm::Decoded(
-            Operator::Kill {
-                dim: k,
-                cell: cell as u8,
-            },
-            at + 1,
-        ),
+    match o {
+        Operator::Make { dim, list } => Operator::Make { dim, list },
+        Operator::Kill { dim, .. } => Operator::Kill { dim, cell },
+        Operator::Split { dim, list, .. } => Operator::Split { dim, cell, list },
+        Operator::Merge { dim, .. } => Operator::Merge { dim, cell },
+        Operator::Flip { dim, .. } => Operator::Flip { dim, cell },
     }
 }
 
-// What a merge at a cell of dimension k has at `at`: the cell.
-fn merge_form(s: &[u8], k: u8, at: usize) -> OperatorForm
-    ensures { λ r. ⌜ r ≡ cellAt (now (s .entry)) (Operator.Merge k) at ⌝ }
+// What a kill, a merge or a flip has at `at`: the cell, which `o` is to have.
+fn cell_form(s: &[u8], o: Operator, at: usize) -> OperatorForm
+    ensures { λ r. ⌜ r ≡ cellAt (now (s .entry)) (withCell o) at ⌝ }
 {
     match byte_form(s, at, 0, 255) {
         Field::Bad(f) => OperatorForm::Bad(f),
-        Field::Got(cell) => OperatorForm::Decoded(
-            Operator::Merge {
-                dim: k,
-                cell: cell as u8,
-            },
-            at + 1,
-        ),
-    }
-}
-
-// What a flip of dimension k has at `at`: the cell.
-fn flip_form(s: &[u8], k: u8, at: usize) -> OperatorForm
-    ensures { λ r. ⌜ r ≡ cellAt (now (s .entry)) (Operator.Flip k) at ⌝ }
-{
-    match byte_form(s, at, 0, 255) {
-        Field::Bad(f) => OperatorForm::Bad(f),
-        Field::Got(cell) => OperatorForm::Decoded(
-            Operator::Flip {
-                dim: k,
-                cell: cell as u8,
-            },
-            at + 1,
-        ),
+        Field::Got(cell) => OperatorForm::Decoded(with_cell(o, cell as u8), at + 1),
     }
 }
 
@@ -126,10 +102,10 @@ pub fn read_operator(s: &[u8], at: usize) -> OperatorForm
             let next = at + 1;
             match code_of(b) {
                 Code::Make(k) => make_form(s, k, next),
-                Code::Kill(k) => kill_form(s, k, next),
+                Code::Kill(k) => cell_form(s, Operator::Kill { dim: k, cell: 0 }, next),
                 Code::Split(k) => split_form(s, k, next),
-                Code::Merge(k) => merge_form(s, k, next),
-                Code::Flip(k) => flip_form(s, k, next),
+                Code::Merge(k) => cell_form(s, Operator::Merge { dim: k, cell: 0 }, next),
+                Code::Flip(k) => cell_form(s, Operator::Flip { dim: k, cell: 0 }, next),
                 Code::Unknown => OperatorForm::Bad(Fault::Wrong(at)),
             }
         }

@@ -18,26 +18,26 @@ coded c =
     simp (is (code .before .before .byte-form .ensures) (code .b .given .1), c .code-of .ensures)
 
 next-fits : tie.Need-add-next
-next-fits c = omega (arith, got (c .before .before .before .byte-form .ensures) (c .before .b .given .1))
+next-fits c = let arm = c .before in omega (arith, got (arm .before .before .byte-form .ensures) (arm .b .given .1))
 
 no-code : tie.Need-returns
 unfolding operatorAt
-no-code c = simp (is (c .before .before .before .byte-form .ensures) (c .before .f .given .1))
+no-code c = let arm = c .before in simp (is (arm .before .before .byte-form .ensures) (arm .f .given .1))
 
 make : tie.Need-returns-2
-make c = simp (coded (c .before .before .before .before), c .before .before .k .given .1) (c .make-form .ensures)
+make c = let arm = c .before .before in simp (coded (arm .before .before), arm .k .given .1) (c .make-form .ensures)
 
 kill : tie.Need-returns-3
-kill c = simp (coded (c .before .before .before .before), c .before .before .k2 .given .1) (c .kill-form .ensures)
+kill c = let arm = c .before .before in simp (coded (arm .before .before), arm .k2 .given .1) (c .cell-form .ensures)
 
 split : tie.Need-returns-4
-split c = simp (coded (c .before .before .before .before), c .before .before .k3 .given .1) (c .split-form .ensures)
+split c = let arm = c .before .before in simp (coded (arm .before .before), arm .k3 .given .1) (c .split-form .ensures)
 
 merge : tie.Need-returns-5
-merge c = simp (coded (c .before .before .before .before), c .before .before .k4 .given .1) (c .merge-form .ensures)
+merge c = let arm = c .before .before in simp (coded (arm .before .before), arm .k4 .given .1) (c .cell-form2 .ensures)
 
 flip : tie.Need-returns-6
-flip c = simp (coded (c .before .before .before .before), c .before .before .k5 .given .1) (c .flip-form .ensures)
+flip c = let arm = c .before .before in simp (coded (arm .before .before), arm .k5 .given .1) (c .cell-form3 .ensures)
 
 unknown : tie.Need-returns-7
 unknown c = simp (coded (c .before .before), c .enum-told .given .1)
