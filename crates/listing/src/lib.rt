@@ -1,4 +1,4 @@
 // The printed result: line by line, and in pieces.
 pub mod lines;
-pub mod numbers;
+mod numbers;
 pub mod pieces;

@@ -17,7 +17,7 @@ use grid::tests::column_last;
 use rules::counts::Counts;
 
 // How many operators ran, and the refusal.
-pub fn line_ran(out: &mut [u8], at: usize, ran: u16, refusal: u8) -> usize
+pub(crate) fn line_ran(out: &mut [u8], at: usize, ran: u16, refusal: u8) -> usize
     requires { ⌜ NumberRoom ran (now out) at 32 ⌝ }
     ensures { λ next. ⌜ PutWithin 32 (now (out .entry)) at (ranLine ran refusal) next (now (out .exit)) ⌝ }
 {
@@ -36,7 +36,7 @@ pub fn line_mesh(out: &mut [u8], at: usize, refusal: u8) -> usize
 }
 
 // The four counts.
-pub fn line_cells(out: &mut [u8], at: usize, c: Counts) -> usize
+pub(crate) fn line_cells(out: &mut [u8], at: usize, c: Counts) -> usize
     requires { ⌜ at + 32 ≤ length (now out) ⌝ }
     ensures { λ next. ⌜ PutWithin 32 (now (out .entry)) at (cellsLine c) next (now (out .exit)) ⌝ }
 {
@@ -48,7 +48,7 @@ pub fn line_cells(out: &mut [u8], at: usize, c: Counts) -> usize
 }
 
 // The Euler number.
-pub fn line_euler(out: &mut [u8], at: usize, z: i16) -> usize
+pub(crate) fn line_euler(out: &mut [u8], at: usize, z: i16) -> usize
     requires { ⌜ NumberRoom (natAbs z) (now out) at 32 ⌝ }
     ensures { λ next. ⌜ PutWithin 32 (now (out .entry)) at (eulerLine z) next (now (out .exit)) ⌝ }
 {
@@ -58,7 +58,7 @@ pub fn line_euler(out: &mut [u8], at: usize, z: i16) -> usize
 }
 
 // Seam j: its tail and its head.
-pub fn line_seam(out: &mut [u8], at: usize, j: usize, m: &[i8]) -> usize
+pub(crate) fn line_seam(out: &mut [u8], at: usize, j: usize, m: &[i8]) -> usize
     requires { ⌜ ColumnRoom (now m) j (now out) at 32 ⌝ }
     ensures { λ next. ⌜ PutWithin 32 (now (out .entry)) at (seamLine j (column (now (m .entry)) j)) next (now (out .exit)) ⌝ }
 {
@@ -98,7 +98,7 @@ fn put_faces(out: &mut [u8], at: usize, j: usize, m: &[i8]) -> usize
 }
 
 // Panel or block j, as the letter says: its signed faces.
-pub fn line_cell(out: &mut [u8], at: usize, letter: u8, j: usize, m: &[i8]) -> usize
+pub(crate) fn line_cell(out: &mut [u8], at: usize, letter: u8, j: usize, m: &[i8]) -> usize
     requires { ⌜ ColumnRoom (now m) j (now out) at 400 ⌝ }
     ensures { λ next. ⌜ PutWithin 400 (now (out .entry)) at (cellLine (letter ∷ []) j (column (now (m .entry)) j)) next (now (out .exit)) ⌝ }
 {

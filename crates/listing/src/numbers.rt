@@ -9,7 +9,7 @@ use buffer::put;
 use buffer::put_all;
 
 // n in decimal at a place, and the place after it.
-pub fn put_decimal(out: &mut [u8], at: usize, n: u16) -> usize
+fn put_decimal(out: &mut [u8], at: usize, n: u16) -> usize
     requires { ⌜ NumberRoom n (now out) at 4 ⌝ }
     ensures { λ next. ⌜ PutWithin 4 (now (out .entry)) at (decimal n) next (now (out .exit)) ⌝ }
 {
@@ -21,7 +21,7 @@ pub fn put_decimal(out: &mut [u8], at: usize, n: u16) -> usize
 }
 
 // A label and n in decimal at a place, and the place after them.
-pub fn put_labelled(out: &mut [u8], at: usize, label: &[u8], n: u16) -> usize
+pub(crate) fn put_labelled(out: &mut [u8], at: usize, label: &[u8], n: u16) -> usize
     requires { ⌜ NumberRoom n (now out) at (length (now label) + 4) ⌝ }
     ensures { λ next. ⌜ PutWithin (length (now (label .entry)) + 4) (now (out .entry)) at (now (label .entry) ++ decimal n) next (now (out .exit)) ⌝ }
 {
@@ -30,7 +30,7 @@ pub fn put_labelled(out: &mut [u8], at: usize, label: &[u8], n: u16) -> usize
 }
 
 // One field of a line: a label and a byte in decimal at a place, and the place after them.
-pub fn put_field(out: &mut [u8], at: usize, label: &[u8], n: u8) -> usize
+pub(crate) fn put_field(out: &mut [u8], at: usize, label: &[u8], n: u8) -> usize
     requires { ⌜ at + (length (now label) + 4) ≤ length (now out) ⌝ }
     ensures { λ next. ⌜ PutWithin (length (now (label .entry)) + 4) (now (out .entry)) at (now (label .entry) ++ decimal n) next (now (out .exit)) ⌝ }
 {
@@ -38,7 +38,7 @@ pub fn put_field(out: &mut [u8], at: usize, label: &[u8], n: u8) -> usize
 }
 
 // z in decimal, with a sign where it is below 0, at a place, and the place after it.
-pub fn put_whole(out: &mut [u8], at: usize, z: i16) -> usize
+pub(crate) fn put_whole(out: &mut [u8], at: usize, z: i16) -> usize
     requires { ⌜ NumberRoom (natAbs z) (now out) at 5 ⌝ }
     ensures { λ next. ⌜ PutWithin 5 (now (out .entry)) at (whole z) next (now (out .exit)) ⌝ }
 {
