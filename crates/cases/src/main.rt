@@ -2,7 +2,8 @@
 // follows what is printed for the one before, and a greater length ends the run.
 ghost use Prim.Native.Nat.{_≤_};
 ghost use lib.ListN.{length};
-ghost use Rattle.mesh.specs.Reading.{Long};
+ghost use Rattle.rules.specs.Complex.{Sized, countsOf, empty};
+ghost use Rattle.rules.specs.Lending.{asLent};
 use printing::print;
 
 // A length in three bytes.
@@ -13,7 +14,7 @@ fn length_of(low: u8, middle: u8, high: u8) -> usize {
 // One input, and whether there was one.
 fn print_next(input: &mut [u8], m1: &mut [i8], m2: &mut [i8], m3: &mut [i8], out: &mut [u8]) -> bool
     requires { ⌜ 65536 ≤ length (now input) ⌝ }
-    requires { ⌜ Long (now m1) (now m2) (now m3) ⌝ }
+    requires { ⌜ Sized (asLent (countsOf empty) m1 m2 m3) ⌝ }
     requires { ⌜ 38400 ≤ length (now out) ⌝ }
 {
     let mut head = [0u8; 3];

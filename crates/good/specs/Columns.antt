@@ -6,18 +6,13 @@ use Prim.Native.Nat.{ℕ, _+_, _-_, _≤_}
 use lib.IntN.{ℤ}
 use lib.ListN.{length}
 use Rattle.maths.specs.Tests.{isZero, isUnit, all}
-use Rattle.grid.specs.Grid.{Units, run}
+use Rattle.grid.specs.Grid.{Units, Columns, run}
 
 -- the column at a place: -1, 0 or 1 in the rows below the count, and 0 past it
 unfoldable pub columnInPlace : List ℤ → ℕ → ℕ → Bool
 columnInPlace m from rows = all rows (λ i. isUnit (run m from i)) && all (96 - rows) (λ i. isZero (run m (from + rows) i))
 
--- a stored matrix, the first n columns of which are in use
-pub record Columns (m : List ℤ) (n : ℕ) : Type 0 where
-  pub size : length m ≡ 9216
-  pub few : n ≤ 96
-
--- the same, with its rows in use
+-- a stored matrix, with its rows and columns in use
 pub record Matrix (m : List ℤ) (rows n : ℕ) : Type 0 where
   pub columns : Columns m n
   pub short : rows ≤ 96

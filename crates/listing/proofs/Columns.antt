@@ -23,8 +23,8 @@ module _ {f : ℕ → Chain → List ℕ} {k : ℕ} {m : List ℤ} {n : ℕ} whe
   module _ {x y : List ℕ} {at j next : ℕ} (b : Begun f k m n x at j next y) where
     pub begun-room : LinesRoom k m n x at → j < n → ColumnRoom m j y next k
     begun-room r h =
-        let full : (j + 1) * k ≤ 96 * k = mul-le-mul-right k (omega (arith, r .few)) in
-        record { size = r .size; inside = omega arith; room = omega arith }
+        let full : (j + 1) * k ≤ 96 * k = mul-le-mul-right k (omega (arith, r .columns .few)) in
+        record { line = record { size = r .columns .size; inside = omega (arith, r .columns .few) }; room = omega arith }
 
     pub begun-more : {z : List ℕ} {after : ℕ} → j < n → PutWithin k y next (f j (column m j)) after z → Begun f k m n x at (j + 1) after z
     begun-more h p = record { pieces = pieces-more (b .pieces) h (p .put); most = omega arith }

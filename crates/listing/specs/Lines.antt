@@ -1,5 +1,4 @@
 -- The lines of the printed result, one by one, and what putting one needs and leaves.
-use mathlib.Core.Path.{_≡_}
 use mathlib.Core.List.{List, _++_}
 use Prim.Native.Nat.{ℕ, _+_, _<_, _≤_}
 use lib.IntN.{ℤ}
@@ -8,6 +7,7 @@ use Rattle.maths.specs.Buffers.{Put}
 use Rattle.rules.specs.declared.counts.Counts.{Counts}
 use Rattle.rules.specs.Counts.{countOf}
 use Rattle.rules.specs.Printed.{text, line, decimal, whole}
+use Rattle.grid.specs.Grid.{Line}
 
 -- the first line of a run: how many operators ran, and the refusal
 unfoldable pub ranLine : ℕ → ℕ → List ℕ
@@ -34,6 +34,5 @@ pub record NumberRoom (n : ℕ) (out : List ℕ) (at k : ℕ) : Type 0 where
 
 -- column j of a stored matrix, and room for k bytes
 pub record ColumnRoom (m : List ℤ) (j : ℕ) (out : List ℕ) (at k : ℕ) : Type 0 where
-  pub size : length m ≡ 9216
-  pub inside : j < 96
+  pub line : Line m j
   pub room : at + k ≤ length out

@@ -1,5 +1,4 @@
 -- The text of each piece of the printed result, and what putting one needs.
-use mathlib.Core.Path.{_≡_}
 use mathlib.Core.List.{List, _++_}
 use Prim.Native.Nat.{ℕ, _+_, _*_, _<_, _≤_}
 use lib.IntN.{ℤ, natAbs}
@@ -10,6 +9,7 @@ use Rattle.rules.specs.declared.counts.Counts.{Counts}
 use Rattle.rules.specs.Counts.{countOf}
 use Rattle.rules.specs.Complex.{Chain}
 use Rattle.rules.specs.Printed.{seamLine}
+use Rattle.grid.specs.Grid.{Columns}
 use Rattle.listing.specs.Lines.{ranLine, cellsLine, eulerLine}
 
 -- a line for each of the first n columns of a stored matrix
@@ -22,8 +22,7 @@ runText ran refusal c z m = ranLine ran refusal ++ (cellsLine c ++ (eulerLine z 
 
 -- a stored matrix of n columns, and room for 96 lines of at most k bytes
 pub record LinesRoom (k : ℕ) (m : List ℤ) (n : ℕ) (out : List ℕ) (at : ℕ) : Type 0 where
-  pub size : length m ≡ 9216
-  pub few : n ≤ 96
+  pub columns : Columns m n
   pub room : at + 96 * k ≤ length out
 
 -- numbers that can be printed, and room for three lines and the seams

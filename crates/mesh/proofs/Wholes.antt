@@ -6,12 +6,12 @@ use mathlib.Core.List.{List, [], _∷_}
 use Prim.Native.Nat.{ℕ, zero, suc, _+_, _≤_}
 use native.Mathlib.Omega.{arith}
 use lib.IntN.{ℤ}
-use Rattle.rules.specs.declared.counts.Counts.{Counts}
+use lib.ListN.{length}
 use Rattle.rules.specs.declared.answers.MeshRead.{MeshRead}
 use Rattle.rules.specs.declared.form.Fault.{Fault}
 use Rattle.rules.specs.declared.form.Field.{Field}
 use Rattle.rules.specs.Refusals.{accepted, wrongLength}
-use Rattle.rules.specs.Complex.{Pattern, pattern, Complex, complex, countsOf, empty, stored}
+use Rattle.rules.specs.Complex.{Pattern, Sized, pattern, Complex, complex, countsOf, empty, stored}
 use Rattle.rules.specs.Form.{faultNumber, byteAt}
 use Rattle.rules.specs.Mesh.{Reading, faulty, refused, taken, Place, corners, readSection, readMesh, afterReading}
 use Rattle.rules.specs.Calls.{lent, sized, noMesh, readCall}
@@ -20,7 +20,7 @@ use Rattle.rules.proofs.branches.Numbers.{fault-numbered}
 use Rattle.rules.proofs.texts.ReadGood.{corners-good}
 use Rattle.rules.proofs.storage.Stored.{lengths, complex-stored, stored-complex}
 use Rattle.operators.proofs.patterns.Kept.{stored-held}
-use Rattle.mesh.specs.Reading.{Long, Zeros, zeros, refusalOf, PartRead, from, ReadUpTo, NextSection}
+use Rattle.mesh.specs.Reading.{Zeros, zeros, refusalOf, PartRead, from, ReadUpTo, NextSection}
 
 module _ (s : List ℕ) where
   -- the corner count
@@ -71,8 +71,9 @@ module _ (s : List ℕ) where
     pub next-refused : r .refusal ≢ accepted → ReadUpTo s (k + 1) r p
     next-refused n = record { held = N .sofar .held; goes = λ e. absurd (n e); ends = N .sofar .ends }
 
-pub sized-long : (c : Counts) (m1 m2 m3 : List ℤ) → sized (pattern c m1 m2 m3) ≡ true → Long m1 m2 m3
-sized-long c m1 m2 m3 e = let l = lengths (pattern c m1 m2 m3) e in record { long1 = l .0; long2 = l .1; long3 = l .2 }
+-- a lent pattern that passed the test of its lengths
+pub all-sized : (p : Pattern) → length (p .counts .n) ≡ 4 → sized p ≡ true → Sized p
+all-sized p four e = let l = lengths p e in record { four = four; size1 = l .0; size2 = l .1; size3 = l .2 }
 
 -- what the call answers
 module _ (s : List ℕ) (p : Pattern) where

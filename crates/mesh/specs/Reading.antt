@@ -4,7 +4,6 @@ use mathlib.Core.Logic.{_≢_}
 use mathlib.Core.List.{List}
 use Prim.Native.Nat.{ℕ, zero, suc, _≤_}
 use lib.IntN.{ℤ, pos}
-use lib.ListN.{length}
 use Rattle.maths.specs.Tables.{tab}
 use Rattle.rules.specs.declared.counts.Counts.{Counts}
 use Rattle.rules.specs.declared.answers.MeshRead.{MeshRead}
@@ -17,12 +16,6 @@ use Rattle.operators.specs.Held.{Held}
 pub record Readable (k : ℕ) (p : Pattern) : Type 0 where
   pub dim : k ≤ 3
   pub held : Held p
-
--- three matrices of the right length
-pub record Long (m1 m2 m3 : List ℤ) : Type 0 where
-  pub long1 : length m1 ≡ 9216
-  pub long2 : length m2 ≡ 9216
-  pub long3 : length m3 ≡ 9216
 
 -- three matrices of zeros, and a pattern of them
 pub record Zeros (m1 m2 m3 : List ℤ) : Type 0 where

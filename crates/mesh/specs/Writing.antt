@@ -1,14 +1,14 @@
 -- The texts of a mesh by stored matrix, and what it is to put a text into a buffer.
-use mathlib.Core.Path.{_≡_}
 use mathlib.Core.List.{List, [], _∷_}
-use Prim.Native.Nat.{ℕ, _<_, _≤_}
+use Prim.Native.Nat.{ℕ}
 use lib.IntN.{ℤ}
-use lib.ListN.{length}
 use Rattle.maths.specs.Sums.{join}
 use Rattle.maths.specs.Tables.{column}
 use Rattle.maths.specs.Buffers.{Fits}
 use Rattle.rules.specs.Complex.{Pattern, Chain, complex}
 use Rattle.rules.specs.Mesh.{faceCount, tailOf, headOf, pair, eachFace, writeCell, writeMesh}
+use Rattle.grid.specs.Grid.{Line, Columns}
+use Rattle.operators.specs.Held.{Held}
 
 -- a seam, and a cell of a higher dimension
 abbrev pub seamText : Chain → List ℕ
@@ -27,29 +27,15 @@ sectionText k m n = n ∷ cellTexts k m n
 
 -- column j of a stored matrix, and room for its text
 pub record ColumnFits (m : List ℤ) (j : ℕ) (out : List ℕ) (at : ℕ) (text : List ℕ) : Type 0 where
-  pub size : length m ≡ 9216
-  pub inside : j < 96
+  pub line : Line m j
   pub room : Fits out at text
 
--- the first n columns of a stored matrix
-pub record Columns (m : List ℤ) (n : ℕ) : Type 0 where
-  pub size : length m ≡ 9216
-  pub few : n ≤ 96
-
--- the same, and room for their text
+-- the first n columns of a stored matrix, and room for their text
 pub record ColumnsFit (m : List ℤ) (n : ℕ) (out : List ℕ) (at : ℕ) (text : List ℕ) : Type 0 where
-  pub size : length m ≡ 9216
-  pub few : n ≤ 96
+  pub columns : Columns m n
   pub room : Fits out at text
 
--- a pattern of three stored matrices, with counts of at most 96
-pub record Writable (p : Pattern) : Type 0 where
-  pub size1 : length (p .m1) ≡ 9216
-  pub size2 : length (p .m2) ≡ 9216
-  pub size3 : length (p .m3) ≡ 9216
-  pub few : (k : ℕ) → complex p k .n ≤ 96
-
--- the same, and room for its mesh
+-- a good pattern, and room for its mesh
 pub record MeshFits (p : Pattern) (out : List ℕ) : Type 0 where
-  pub writable : Writable p
+  pub held : Held p
   pub room : Fits out 0 (writeMesh (complex p))

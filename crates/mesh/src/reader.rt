@@ -1,13 +1,14 @@
 // Reading a mesh: the corner count, and the sections of seams, panels and blocks.
 ghost use mathlib.Core.Path.{_≡_};
 ghost use Prim.Native.Nat.{_+_};
-ghost use Rattle.rules.specs.Complex.{countsOf, empty};
-ghost use Rattle.rules.specs.Calls.{sized, noMesh, readCall};
+ghost use Rattle.rules.specs.Complex.{Sized, countsOf, empty};
+ghost use Rattle.rules.specs.Calls.{noMesh, readCall};
 ghost use Rattle.rules.specs.Lending.{asLent, atEntry, atExit, left};
-ghost use Rattle.mesh.specs.Reading.{zeros, Long, Zeros, ReadUpTo, NextSection};
+ghost use Rattle.mesh.specs.Reading.{zeros, Zeros, ReadUpTo, NextSection};
 use crate::cells::read_section;
 use form::fields::byte_form;
 use form::fields::refusal_of;
+use good::is_sized;
 use grid::changes::clear;
 use rules::answers::MeshRead;
 use rules::counts::Counts;
@@ -76,16 +77,9 @@ fn read_sections(s: &[u8], m1: &mut [i8], m2: &mut [i8], m3: &mut [i8]) -> MeshR
     read_next(panels, 3, s, m1, m2, m3)
 }
 
-// Whether each matrix has 9,216 entries.
-fn are_sized(m1: &[i8], m2: &[i8], m3: &[i8]) -> bool
-    ensures { λ r. ⌜ r ≡ sized (atEntry (countsOf empty) m1 m2 m3) ⌝ }
-{
-    (m1.len() == 9216) & (m2.len() == 9216) & (m3.len() == 9216)
-}
-
 // Every entry of the three matrices becomes 0.
 fn clear_all(m1: &mut [i8], m2: &mut [i8], m3: &mut [i8])
-    requires { ⌜ Long (now m1) (now m2) (now m3) ⌝ }
+    requires { ⌜ Sized (asLent (countsOf empty) m1 m2 m3) ⌝ }
     ensures { λ _. ⌜ Zeros (now (m1 .exit)) (now (m2 .exit)) (now (m3 .exit)) ⌝ }
 {
     clear(m1);
@@ -97,7 +91,7 @@ fn clear_all(m1: &mut [i8], m2: &mut [i8], m3: &mut [i8])
 pub fn read_mesh(s: &[u8], m1: &mut [i8], m2: &mut [i8], m3: &mut [i8]) -> MeshRead
     ensures { λ r. ⌜ left r m1 m2 m3 ≡ readCall (now (s .entry)) (atEntry (countsOf empty) m1 m2 m3) ⌝ }
 {
-    if !are_sized(m1, m2, m3) {
+    if !is_sized(m1, m2, m3) {
         return refused(WRONG_LENGTH);
     }
     clear_all(m1, m2, m3);

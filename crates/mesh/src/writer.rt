@@ -10,8 +10,9 @@ ghost use Rattle.rules.specs.Complex.{complex};
 ghost use Rattle.rules.specs.Mesh.{pair, eachFace, writeCell, writeMesh, oneFace};
 ghost use Rattle.rules.specs.Calls.{writeCall};
 ghost use Rattle.rules.specs.Lending.{asLent, atEntry};
-ghost use Rattle.grid.specs.Grid.{Line};
-ghost use Rattle.mesh.specs.Writing.{seamText, listText, sectionText, ColumnFits, Columns, ColumnsFit, Writable, MeshFits};
+ghost use Rattle.grid.specs.Grid.{Line, Columns};
+ghost use Rattle.operators.specs.Held.{Held};
+ghost use Rattle.mesh.specs.Writing.{seamText, listText, sectionText, ColumnFits, ColumnsFit, MeshFits};
 use buffer::put;
 use buffer::put_two;
 use good::refusal_of_pattern;
@@ -50,7 +51,7 @@ fn section_length(m: &[i8], k: usize, n: u8) -> usize
 
 // How long the mesh is.
 fn mesh_length(c: Counts, m1: &[i8], m2: &[i8], m3: &[i8]) -> usize
-    requires { ⌜ Writable (asLent c m1 m2 m3) ⌝ }
+    requires { ⌜ Held (asLent c m1 m2 m3) ⌝ }
     ensures { λ r. ⌜ r ≡ length (writeMesh (complex (atEntry c m1 m2 m3))) ⌝ }
 {
     let n = c.n;

@@ -14,13 +14,13 @@ use Rattle.printing.proofs.Sizes.{Printable}
 
 module _ {l : Lent InputRun} (p : Printable l) (out : List ℕ) (long : 38400 ≤ length out) where
   pub head-room : RunRoom (l .answer .ran) (l .answer .counts) (l .answer .euler) (l .m1) out
-  head-room = record { ran-small = omega arith; euler-small = omega arith; seams = record { size = p .size1; few = p .seams; room = omega arith } }
+  head-room = record { ran-small = omega arith; euler-small = omega arith; seams = record { columns = record { size = p .sized .size1; few = p .seams }; room = omega arith } }
 
   pub panel-room : LinesRoom 400 (l .m2) (countOf (l .answer .counts) 2) out 0
-  panel-room = record { size = p .size2; few = p .panels; room = omega arith }
+  panel-room = record { columns = record { size = p .sized .size2; few = p .panels }; room = omega arith }
 
   pub block-room : LinesRoom 400 (l .m3) (countOf (l .answer .counts) 3) out 0
-  block-room = record { size = p .size3; few = p .blocks; room = omega arith }
+  block-room = record { columns = record { size = p .sized .size3; few = p .blocks }; room = omega arith }
 
 -- what a piece at the front leaves of the buffer can be lent up to its end
 module _ {x y t : List ℕ} {n : ℕ} (p : Put x 0 t n y) where

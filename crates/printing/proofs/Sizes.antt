@@ -4,9 +4,9 @@ use mathlib.Core.List.{List}
 use Prim.Native.Nat.{ℕ, _≤_}
 use native.Mathlib.Omega.{arith}
 use lib.IntN.{natAbs}
-use lib.ListN.{length, drop}
+use lib.ListN.{drop}
 use Rattle.rules.specs.Counts.{countOf}
-use Rattle.rules.specs.Complex.{Complex, empty}
+use Rattle.rules.specs.Complex.{Sized, pattern, Complex, empty}
 use Rattle.rules.specs.Good.{Good, isGood}
 use Rattle.rules.specs.Form.{scriptForm}
 use Rattle.rules.specs.Mesh.{readMesh}
@@ -29,9 +29,7 @@ pub record Printable (l : Lent InputRun) : Type 0 where
   pub seams : countOf (l .answer .counts) 1 ≤ 96
   pub panels : countOf (l .answer .counts) 2 ≤ 96
   pub blocks : countOf (l .answer .counts) 3 ≤ 96
-  pub size1 : length (l .m1) ≡ 9216
-  pub size2 : length (l .m2) ≡ 9216
-  pub size3 : length (l .m3) ≡ 9216
+  pub sized : Sized (pattern (l .answer .counts) (l .m1) (l .m2) (l .m3))
 
 -- no more operators run than a script may have
 ran-most : {X : Complex} → Good X → (script : List ℕ) → endOf script X .ran ≤ 1024
@@ -49,16 +47,13 @@ ran-most {X} G script =
 
 ended-printable : (e : Ended) → Good (e .now) → e .ran ≤ 1024 → Printable (ranTo e)
 ended-printable e G h =
-    let S = stored-sized (e .now) in
     record {
       ran = h;
       euler = euler-size (e .now) (G .few);
       seams = G .few 1;
       panels = G .few 2;
       blocks = G .few 3;
-      size1 = S .size1;
-      size2 = S .size2;
-      size3 = S .size3;
+      sized = stored-sized (e .now);
     }
 
 run-printable : (s : List ℕ) → Printable (runInput s)
@@ -66,16 +61,13 @@ unfolding runInput
 run-printable s =
     reading-each Printable (readMesh s)
     (λ r.
-    let S = stored-sized empty in
     record {
       ran = omega arith;
       euler = omega arith;
       seams = omega arith;
       panels = omega arith;
       blocks = omega arith;
-      size1 = S .size1;
-      size2 = S .size2;
-      size3 = S .size3;
+      sized = stored-sized empty;
     })
     (λ X used e.
     let G = read-good s X used e in

@@ -1,8 +1,8 @@
 // What the program makes of its input.
 ghost use mathlib.Core.Path.{_≡_};
-ghost use Rattle.mesh.specs.Reading.{Long};
+ghost use Rattle.rules.specs.Complex.{Sized, countsOf, empty};
 ghost use Rattle.printing.specs.Input.{runInput};
-ghost use Rattle.rules.specs.Lending.{left};
+ghost use Rattle.rules.specs.Lending.{asLent, left};
 use engine::euler::euler;
 use engine::read_mesh;
 use engine::run_script;
@@ -20,7 +20,7 @@ pub struct InputRun {
 
 // The mesh at the front of the bytes is read into three matrices, and the script after it is run on them.
 pub(crate) fn run_input(s: &[u8], m1: &mut [i8], m2: &mut [i8], m3: &mut [i8]) -> InputRun
-    requires { ⌜ Long (now m1) (now m2) (now m3) ⌝ }
+    requires { ⌜ Sized (asLent (countsOf empty) m1 m2 m3) ⌝ }
     ensures { λ r. ⌜ left r m1 m2 m3 ≡ runInput (now (s .entry)) ⌝ }
 {
     let read = read_mesh(s, m1, m2, m3);

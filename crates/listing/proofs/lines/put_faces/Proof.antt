@@ -26,7 +26,7 @@ loop-again c =
     let loop = arg .before .before .before in
     let start = loop .before .before in
     let lent = start .args in
-    let e = entry-read (lent .m .now) (loop .loop .i) (lent .j) (omega arith) (start .pre .inside) (arg .put-face-arg2 .given) in
+    let e = entry-read (lent .m .now) (loop .loop .i) (lent .j) (omega arith) (start .pre .line .inside) (arg .put-face-arg2 .given) in
     pieces-more (loop .loop .inv) (omega arith) (rw e at (c .before .before .put-face .ensures))
 
 returns : tie.Need-returns Inv-loop μ-loop

@@ -6,7 +6,7 @@ use borrow.Author.Tests.{not-true, not-false}
 use Rattle.rules.specs.Complex.{Pattern, countsOf, empty}
 use Rattle.rules.specs.Calls.{sized}
 use Rattle.rules.specs.Lending.{asLent}
-use Rattle.mesh.proofs.Wholes.{sized-long, wrong-length, reading-taken, reading-refused}
+use Rattle.mesh.proofs.Wholes.{all-sized, wrong-length, reading-taken, reading-refused}
 use Rattle.mesh.proofs.reader.read_mesh.Statement.{statement}
 use Rattle.mesh.proofs.reader.read_mesh.Tie as tie
 
@@ -14,36 +14,37 @@ use Rattle.mesh.proofs.reader.read_mesh.Tie as tie
 abbrev entry : (c : tie.Start) → Pattern
 entry c = let a = c .args in asLent (countsOf empty) (a .m1) (a .m2) (a .m3)
 
+abbrev start : tie.After-is-sized → tie.Start
+start c = c .before .before .before .before .before
+
 short : tie.Need-returns
 short c =
     let call = c .before .before in
-    let start = call .before .before .before .before .before in
-    wrong-length (start .args .s .now) (entry start) (sym (call .are-sized .ensures) ∙ not-true _ (c .before .if1 .taken)) (c .refused .ensures)
+    wrong-length (start call .args .s .now) (entry (start call)) (sym (call .is-sized .ensures) ∙ not-true _ (c .before .if1 .taken)) (c .refused .ensures)
 
-long : (c : tie.Else1) → sized (entry (c .before .before .before .before .before .before)) ≡ true
-long c = sym (c .before .are-sized .ensures) ∙ not-false _ (c .if1 .left)
+long : (c : tie.Else1) → sized (entry (start (c .before))) ≡ true
+long c = sym (c .before .is-sized .ensures) ∙ not-false _ (c .if1 .left)
 
 first-cleared : tie.Need-clear-all-requires
-first-cleared c κs =
-    let test = c .before .before .before in
-    let a = test .before .before .before .before .before .before .args in
-    sized-long (countsOf empty) (a .m1 .now) (a .m2 .now) (a .m3 .now) (long test)
+first-cleared c κs = let test = c .before .before .before in all-sized (entry (start (test .before))) refl (long test)
+
+-- where the lengths passed, before the sections were read
+abbrev passed : tie.After-read-sections → tie.Else1
+passed c = c .before .before .before .before .before .before .before .before .before .before .before
 
 not-taken : tie.Need-returns-2
 not-taken c =
     let cleared = c .before .before .before .before in
     let test = cleared .before .before .before .before in
     let call = test .before .before .before .before .before in
-    let first = call .before .before .before .before .before .before .before .before .before .before .before in
-    let start = first .before .before .before .before .before .before in
-    reading-refused (start .args .s .now) (entry start) (long first) (call .read-sections .ensures) (test .if2 .taken) (cleared .clear-all2 .ensures) (c .refused2 .ensures)
+    let s = start (passed call .before) in
+    reading-refused (s .args .s .now) (entry s) (long (passed call)) (call .read-sections .ensures) (test .if2 .taken) (cleared .clear-all2 .ensures) (c .refused2 .ensures)
 
 taken : tie.Need-returns-3
 taken c =
     let call = c .before .before .before .before .before in
-    let first = call .before .before .before .before .before .before .before .before .before .before .before in
-    let start = first .before .before .before .before .before .before in
-    reading-taken (start .args .s .now) (entry start) (long first) (call .read-sections .ensures) refl (c .if2 .left)
+    let s = start (passed call .before) in
+    reading-taken (s .args .s .now) (entry s) (long (passed call)) (call .read-sections .ensures) refl (c .if2 .left)
 
 pub read-mesh-spec : {M : Type 1} → statement M
 read-mesh-spec =

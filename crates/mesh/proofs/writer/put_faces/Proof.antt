@@ -19,7 +19,7 @@ put-face-requires : tie.Need-put-face-requires Inv-loop μ-loop
 put-face-requires c κs =
     let loop = c .before .before .before in
     let start = loop .before .before in
-    let e = entry-read (start .args .m .now) (loop .loop .i) (start .args .j) (omega arith) (start .pre .inside) (c .put-face-arg2 .given) in
+    let e = entry-read (start .args .m .now) (loop .loop .i) (start .args .j) (omega arith) (start .pre .line .inside) (c .put-face-arg2 .given) in
     rw e (pieces-fit (loop .loop .inv) (rw (faces-are pair (column (start .args .m .now) (start .args .j))) (start .pre .room)) (omega arith))
 
 loop-again : tie.Need-loop-again Inv-loop μ-loop
@@ -27,7 +27,7 @@ loop-again c =
     let read = c .before .before .before in
     let loop = read .before .before .before in
     let start = loop .before .before in
-    let e = entry-read (start .args .m .now) (loop .loop .i) (start .args .j) (omega arith) (start .pre .inside) (read .put-face-arg2 .given) in
+    let e = entry-read (start .args .m .now) (loop .loop .i) (start .args .j) (omega arith) (start .pre .line .inside) (read .put-face-arg2 .given) in
     pieces-more (loop .loop .inv) (omega arith) (rw e at (c .before .before .put-face .ensures))
 
 returns : tie.Need-returns Inv-loop μ-loop

@@ -4,7 +4,7 @@ use borrow.Author.Needs.{needs}
 use Rattle.rules.specs.Complex.{Pattern}
 use Rattle.rules.specs.Lending.{asLent}
 use Rattle.maths.proofs.Buffers.{two-pieces}
-use Rattle.mesh.proofs.Sections.{mesh-is, mesh-size}
+use Rattle.mesh.proofs.Sections.{mesh-is, mesh-size, seam-columns, panel-columns, block-columns}
 use Rattle.mesh.proofs.writer.put_mesh.Statement.{statement}
 use Rattle.mesh.proofs.writer.put_mesh.Tie as tie
 
@@ -12,40 +12,43 @@ use Rattle.mesh.proofs.writer.put_mesh.Tie as tie
 abbrev entry : tie.Start → Pattern
 entry start = let a = start .args in asLent (a .c) (a .m1) (a .m2) (a .m3)
 
+-- from a call back to the one before it
+abbrev before-corners : tie.After-put → tie.Start
+before-corners c = c .before .before .before .before
+
+abbrev before-seams : tie.After-put-section → tie.After-put
+before-seams c = c .before .before .before .before
+
+abbrev before-panels : tie.After-put-section2 → tie.After-put-section
+before-panels c = c .before .before .before .before
+
 put-section-requires : tie.Need-put-section-requires
 put-section-requires c κs =
-    let corners = c .before .before .before in
-    let start = corners .before .before .before .before in
+    let start = before-corners (c .before .before .before) in
     let size = mesh-size (entry start) in
-    record { size = start .pre .writable .size1; few = start .pre .writable .few 1; room = omega arith }
+    record { columns = seam-columns (start .pre .held); room = omega arith }
 
 put-section-requires-2 : tie.Need-put-section-requires-2
 put-section-requires-2 c κs =
-    let seams = c .before .before .before in
-    let corners = seams .before .before .before .before in
-    let start = corners .before .before .before .before in
+    let start = before-corners (before-seams (c .before .before .before)) in
     let size = mesh-size (entry start) in
-    record { size = start .pre .writable .size2; few = start .pre .writable .few 2; room = omega arith }
+    record { columns = panel-columns (start .pre .held); room = omega arith }
 
 put-section-requires-3 : tie.Need-put-section-requires-3
 put-section-requires-3 c κs =
-    let panels = c .before .before .before in
-    let seams = panels .before .before .before .before in
-    let corners = seams .before .before .before .before in
-    let start = corners .before .before .before .before in
+    let start = before-corners (before-seams (before-panels (c .before .before .before))) in
     let size = mesh-size (entry start) in
-    record { size = start .pre .writable .size3; few = start .pre .writable .few 3; room = omega arith }
+    record { columns = block-columns (start .pre .held); room = omega arith }
 
 returns : tie.Need-returns
 returns c =
     let blocks = c .before .before in
     let panels = blocks .before .before .before .before in
-    let seams = panels .before .before .before .before in
-    let corners = seams .before .before .before .before in
-    let start = corners .before .before .before .before in
+    let seams = before-panels panels in
+    let corners = before-seams seams in
     let upto-seams = two-pieces (corners .put .ensures) (seams .put-section .ensures) in
     let upto-panels = two-pieces upto-seams (panels .put-section2 .ensures) in
-    rw (← mesh-is (entry start)) (two-pieces upto-panels (blocks .put-section3 .ensures))
+    rw (← mesh-is (entry (before-corners corners))) (two-pieces upto-panels (blocks .put-section3 .ensures))
 
 pub put-mesh-spec : {M : Type 1} → statement M
 put-mesh-spec =

@@ -21,8 +21,7 @@ put-cell-requires c κs =
     let count = loop .before .before .before in
     let start = count .before .before .before in
     record {
-      size = start .pre .size;
-      inside = omega arith;
+      line = record { size = start .pre .columns .size; inside = omega arith };
       room = pieces-fit (loop .loop .inv) (omega (arith, start .pre .room, count .put .ensures .place, count .put .ensures .size)) (omega arith);
     }
 

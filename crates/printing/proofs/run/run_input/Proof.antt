@@ -1,5 +1,5 @@
 -- `printing::run::run_input` meets its contract: a refused mesh ends it, and one that was taken has its script run.
-use mathlib.Core.Path.{_≡_, refl}
+use mathlib.Core.Path.{_≡_}
 use mathlib.Core.Bool.{true}
 use Prim.Native.Nat.{_≤_}
 use native.Mathlib.Omega.{arith}
@@ -21,7 +21,7 @@ abbrev entry : tie.Start → Pattern
 entry start = let a = start .args in asLent (countsOf empty) (a .m1) (a .m2) (a .m3)
 
 long : (start : tie.Start) → sized (entry start) ≡ true
-long start = sized-is {p = entry start} (record { four = refl; size1 = start .pre .long1; size2 = start .pre .long2; size3 = start .pre .long3 })
+long start = sized-is {p = entry start} (start .pre)
 
 -- from a need back to the reading of the mesh, and from there to the entry
 abbrev reading : tie.Else1 → tie.After-read-mesh
