@@ -4,6 +4,7 @@ ghost use Prim.Native.Nat.{_≤_};
 ghost use lib.ListN.{length};
 ghost use Rattle.rules.specs.Complex.{Sized, countsOf, empty};
 ghost use Rattle.rules.specs.Lending.{asLent};
+use maths::SIZE;
 use printing::print;
 
 // A length in three bytes.
@@ -32,9 +33,9 @@ fn print_next(input: &mut [u8], m1: &mut [i8], m2: &mut [i8], m3: &mut [i8], out
 
 fn main() {
     let mut input = io::large_buffer();
-    let mut m1 = [0i8; 9216];
-    let mut m2 = [0i8; 9216];
-    let mut m3 = [0i8; 9216];
+    let mut m1 = [0i8; SIZE];
+    let mut m2 = [0i8; SIZE];
+    let mut m3 = [0i8; SIZE];
     let mut out = [0u8; 38400];
     let mut left: u32 = 65536;
     while 0 < left && print_next(&mut input, &mut m1, &mut m2, &mut m3, &mut out) {

@@ -1,5 +1,6 @@
 // Rising lists of numbers, with signs and without.
 use crate::fields::byte_form;
+use maths::SIDE;
 use rules::form::EntryForm;
 use rules::form::Field;
 ghost use mathlib.Core.Path.{_≡_};
@@ -50,7 +51,7 @@ fn entries_form(signed: bool, s: &[u8], n: usize, at: usize) -> Field
 pub(crate) fn list_form(signed: bool, s: &[u8], at: usize) -> Field
     ensures { λ r. ⌜ r ≡ listAt signed (now (s .entry)) at ⌝ }
 {
-    match byte_form(s, at, 0, 96) {
+    match byte_form(s, at, 0, SIDE) {
         Field::Bad(f) => Field::Bad(f),
         Field::Got(n) => entries_form(signed, s, n, at + 1),
     }

@@ -2,6 +2,7 @@
 use crate::fields::byte_form;
 use crate::fields::word_form;
 use crate::operators::read_operator;
+use maths::SIDE;
 use rules::form::Fault;
 use rules::form::Field;
 use rules::form::OperatorForm;
@@ -15,7 +16,7 @@ fn counts_form(s: &[u8]) -> Field
     let mut at: usize = 1;
     let mut left: usize = 4;
     while 0 < left {
-        match byte_form(s, at, 0, 96) {
+        match byte_form(s, at, 0, SIDE) {
             Field::Bad(f) => return Field::Bad(f),
             Field::Got(_) => {
                 at += 1;

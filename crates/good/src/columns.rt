@@ -12,13 +12,15 @@ ghost use Rattle.good.specs.Columns.{columnInPlace, Column, Matrix};
 use grid::runs::are_units;
 use grid::runs::are_zero;
 use grid::runs::times_of;
+use maths::SIDE;
+use maths::SIZE;
 
 // Whether the column at a place is -1, 0 or 1 in the rows below the count and 0 past it.
 fn column_in_place(m: &[i8], from: usize, rows: usize) -> bool
     requires { ⌜ Column (now m) from rows ⌝ }
     ensures { λ r. ⌜ r ≡ columnInPlace (now (m .entry)) from rows ⌝ }
 {
-    are_units(m, from, rows) & are_zero(m, from + rows, 96 - rows)
+    are_units(m, from, rows) & are_zero(m, from + rows, SIDE - rows)
 }
 
 // Whether every entry is -1, 0 or 1, and 0 where its row or column is not below its count.
@@ -27,11 +29,11 @@ pub fn in_place(m: &[i8], rows: usize, n: usize) -> bool
     ensures { λ r. ⌜ r ≡ inPlace rows (layer n (now (m .entry))) ⌝ }
 {
     for j in 0..n {
-        if !column_in_place(m, 96 * j, rows) {
+        if !column_in_place(m, SIDE * j, rows) {
             return false;
         }
     }
-    are_zero(m, 96 * n, 9216 - 96 * n)
+    are_zero(m, SIDE * n, SIZE - SIDE * n)
 }
 
 // Whether the column at a place has exactly one -1 and one +1.
@@ -48,7 +50,7 @@ pub fn seams(m: &[i8], n: usize) -> bool
     ensures { λ r. ⌜ r ≡ all n (λ j. oneEach (λ i. entries (now (m .entry)) i j)) ⌝ }
 {
     for j in 0..n {
-        if !one_each(m, 96 * j) {
+        if !one_each(m, SIDE * j) {
             return false;
         }
     }
@@ -61,7 +63,7 @@ pub fn faces(m: &[i8], n: usize) -> bool
     ensures { λ r. ⌜ r ≡ all n (λ j. not (allZero (λ i. entries (now (m .entry)) i j))) ⌝ }
 {
     for j in 0..n {
-        if are_zero(m, 96 * j, 96) {
+        if are_zero(m, SIDE * j, SIDE) {
             return false;
         }
     }

@@ -5,6 +5,7 @@ ghost use Rattle.rules.specs.Complex.{countsOf, empty};
 ghost use Rattle.rules.specs.Calls.{sized};
 ghost use Rattle.rules.specs.Lending.{atEntry};
 use crate::pattern::is_good;
+use maths::SIZE;
 use rules::counts::Counts;
 use rules::refusals::ACCEPTED;
 use rules::refusals::NOT_GOOD;
@@ -18,7 +19,7 @@ mod products;
 pub fn is_sized(m1: &[i8], m2: &[i8], m3: &[i8]) -> bool
     ensures { λ r. ⌜ r ≡ sized (atEntry (countsOf empty) m1 m2 m3) ⌝ }
 {
-    (m1.len() == 9216) & (m2.len() == 9216) & (m3.len() == 9216)
+    (m1.len() == SIZE) & (m2.len() == SIZE) & (m3.len() == SIZE)
 }
 
 // The refusal of a lent pattern: 1 where a matrix is not 9,216 long, else 2 where the pattern is not good, else 0.

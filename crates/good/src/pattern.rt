@@ -12,6 +12,7 @@ use crate::columns::faces;
 use crate::columns::in_place;
 use crate::columns::seams;
 use crate::products::product_zero;
+use maths::MOST;
 use rules::counts::Counts;
 
 // The count of dimension k.
@@ -26,7 +27,7 @@ fn count(c: Counts, k: usize) -> usize
 fn few(c: Counts) -> bool
     ensures { λ r. ⌜ r ≡ fewCells c ⌝ }
 {
-    (c.n[0] <= 96) & (c.n[1] <= 96) & (c.n[2] <= 96) & (c.n[3] <= 96)
+    (c.n[0] <= MOST) & (c.n[1] <= MOST) & (c.n[2] <= MOST) & (c.n[3] <= MOST)
 }
 
 // Whether the columns in use are formed as they must be, where all entries are in place.

@@ -7,6 +7,7 @@ ghost use Rattle.rules.specs.Good.{closes};
 ghost use Rattle.rules.specs.Complex.{layer};
 ghost use Rattle.good.specs.Columns.{Neighbours};
 use grid::sums::columns_cancel;
+use maths::SIDE;
 
 // Whether each of n columns of `high`, a chain of cells of `low`, has boundary zero.
 pub fn product_zero(low: &[i8], high: &[i8], between: usize, n: usize) -> bool
@@ -15,7 +16,7 @@ pub fn product_zero(low: &[i8], high: &[i8], between: usize, n: usize) -> bool
     ensures { λ r. ⌜ r ≡ all n (λ j. closes 96 (layer between (now (low .entry))) (λ i. entries (now (high .entry)) i j)) ⌝ }
 {
     for j in 0..n {
-        if !columns_cancel(low, between, high, 96 * j) {
+        if !columns_cancel(low, between, high, SIDE * j) {
             return false;
         }
     }

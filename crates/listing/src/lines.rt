@@ -14,6 +14,7 @@ use crate::numbers::put_whole;
 use buffer::put;
 use buffer::put_all;
 use grid::tests::column_last;
+use maths::SIDE;
 use rules::counts::Counts;
 
 // How many operators ran, and the refusal.
@@ -89,9 +90,9 @@ fn put_faces(out: &mut [u8], at: usize, j: usize, m: &[i8]) -> usize
     requires { ⌜ ColumnRoom (now m) j (now out) at 390 ⌝ }
     ensures { λ next. ⌜ PutWithin 384 (now (out .entry)) at (eachFace signedFace (column (now (m .entry)) j)) next (now (out .exit)) ⌝ }
 {
-    let s = 96 * j;
+    let s = SIDE * j;
     let mut next = at;
-    for i in 0..96usize {
+    for i in 0..SIDE {
         next = put_face(out, next, i as u8, m[s + i]);
     }
     next

@@ -7,6 +7,7 @@ ghost use Rattle.mesh.specs.Reading.{Readable, PartRead};
 use form::fields::byte_form;
 use form::fields::refusal_of;
 use form::operators::make_form;
+use maths::SIDE;
 use operators::make::make;
 use rules::answers::MeshRead;
 use rules::counts::Counts;
@@ -92,7 +93,7 @@ pub(crate) fn read_section(
     requires { ⌜ Readable k (asLent c m1 m2 m3) ⌝ }
     ensures { λ r. ⌜ PartRead (readSection (now (s .entry)) k (complex (atEntry c m1 m2 m3), at)) r (atExit (r .counts) m1 m2 m3) ⌝ }
 {
-    match byte_form(s, at, 0, 96) {
+    match byte_form(s, at, 0, SIDE) {
         Field::Bad(f) => MeshRead {
             counts: c,
             used: at,

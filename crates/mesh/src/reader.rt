@@ -10,6 +10,7 @@ use form::fields::byte_form;
 use form::fields::refusal_of;
 use good::is_sized;
 use grid::changes::clear;
+use maths::SIDE;
 use rules::answers::MeshRead;
 use rules::counts::Counts;
 use rules::form::Field;
@@ -32,7 +33,7 @@ fn refused(refusal: u8) -> MeshRead
 fn read_corners(s: &[u8]) -> MeshRead
     ensures { λ r. ⌜ ReadUpTo (now (s .entry)) 1 r (zeros (r .counts)) ⌝ }
 {
-    match byte_form(s, 0, 0, 96) {
+    match byte_form(s, 0, 0, SIDE) {
         Field::Bad(f) => refused(refusal_of(f)),
         Field::Got(n) => {
             let corners = Counts {

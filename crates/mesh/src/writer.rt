@@ -20,6 +20,7 @@ use grid::byte::eq8;
 use grid::byte::is_zero8;
 use grid::tests::column_count;
 use grid::tests::column_last;
+use maths::SIDE;
 use rules::answers::MeshWritten;
 use rules::counts::Counts;
 use rules::refusals::ACCEPTED;
@@ -84,9 +85,9 @@ fn put_faces(m: &[i8], j: usize, out: &mut [u8], at: usize) -> usize
     requires { ⌜ ColumnFits (now m) j (now out) at (eachFace pair (column (now m) j)) ⌝ }
     ensures { λ next. ⌜ Put (now (out .entry)) at (eachFace pair (column (now (m .entry)) j)) next (now (out .exit)) ⌝ }
 {
-    let s = 96 * j;
+    let s = SIDE * j;
     let mut next = at;
-    for i in 0..96usize {
+    for i in 0..SIDE {
         next = put_face(out, next, i as u8, m[s + i]);
     }
     next
