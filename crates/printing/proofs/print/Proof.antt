@@ -5,6 +5,13 @@ use Rattle.printing.proofs.Rooms.{head-room, panel-room, block-room, pi
 use Rattle.printing.proofs.print.Statement.{statement}
 use Rattle.printing.proofs.print.Tie as tie
 
+-- from a piece back to the run, and to the piece before it
+abbrev ran : tie.After-put-head → tie.After-run-input
+ran c = c .before .before .before .before .before .before
+
+abbrev head : tie.After-put-panels → tie.After-put-head
+head c = c .before .before .before .before .before .before .before
+
 put-head-requires : tie.Need-put-head-requires
 put-head-requires c κs =
     let run = c .before .before .before .before .before in
@@ -12,15 +19,15 @@ put-head-requires c κs =
 
 put-panels-requires : tie.Need-put-panels-requires
 put-panels-requires c κs =
-    let head = c .before .before .before .before .before .before in
-    let run = head .before .before .before .before .before .before in
+    let first = c .before .before .before .before .before .before in
+    let run = ran first in
     panel-room (printable _ (run .run-input .ensures)) _ (search needs)
 
 put-blocks-requires : tie.Need-put-blocks-requires
 put-blocks-requires c κs =
     let panels = c .before .before .before .before .before .before in
-    let head = panels .before .before .before .before .before .before .before in
-    let run = head .before .before .before .before .before .before in
+    let first = head panels in
+    let run = ran first in
     block-room (printable _ (run .run-input .ensures)) _ (search needs)
 
 pub print-spec : {M : Type 1} → statement M

@@ -7,17 +7,17 @@ use Rattle.form.proofs.lists.entry_form.Statement.{statement}
 use Rattle.form.proofs.lists.entry_form.Tie as tie
 
 least-fits : tie.Need-add-least
-least-fits c = omega (arith, got (c .before .before .before .byte-form .ensures) (c .before .x .given .1))
+least-fits c = let arm = c .before in omega (arith, got (arm .before .before .byte-form .ensures) (arm .x .given .1))
 
 next-fits : tie.Need-add-next
-next-fits c = omega (arith, got (c .before .before .before .byte-form .ensures) (c .before .x .given .1))
+next-fits c = let arm = c .before in omega (arith, got (arm .before .before .byte-form .ensures) (arm .x .given .1))
 
 after-sign-fits : tie.Need-add-t16
 after-sign-fits c = omega (arith, got (c .before .before .byte-form2 .ensures) (c .enum-told .given .1))
 
 bad-number : tie.Need-returns
 unfolding entryAt
-bad-number c = simp (is (c .before .before .before .byte-form .ensures) (c .before .f .given .1))
+bad-number c = let arm = c .before in simp (is (arm .before .before .byte-form .ensures) (arm .f .given .1))
 
 bad-sign : tie.Need-returns-2
 unfolding entryAt

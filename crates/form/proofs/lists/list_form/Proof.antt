@@ -7,11 +7,11 @@ use Rattle.form.proofs.lists.list_form.Statement.{statement}
 use Rattle.form.proofs.lists.list_form.Tie as tie
 
 place-fits : tie.Need-add-entries-form
-place-fits c = omega (arith, got (c .before .before .before .byte-form .ensures) (c .before .n .given .1))
+place-fits c = let arm = c .before in omega (arith, got (arm .before .before .byte-form .ensures) (arm .n .given .1))
 
 bad-count : tie.Need-returns
 unfolding listAt
-bad-count c = simp (is (c .before .before .before .byte-form .ensures) (c .before .f .given .1))
+bad-count c = let arm = c .before in simp (is (arm .before .before .byte-form .ensures) (arm .f .given .1))
 
 entries : tie.Need-returns-2
 unfolding listAt

@@ -14,7 +14,7 @@ left-over c =
 
 bad-operator : tie.Need-returns-2
 unfolding loneOperator
-bad-operator c = simp (is (c .before .before .before .read-operator .ensures) (c .before .f .given .1))
+bad-operator c = let arm = c .before in simp (is (arm .before .before .read-operator .ensures) (arm .f .given .1))
 
 alone : tie.Need-returns-3
 unfolding loneOperator

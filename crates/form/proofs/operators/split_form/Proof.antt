@@ -8,10 +8,10 @@ use Rattle.form.proofs.operators.split_form.Statement.{statement}
 use Rattle.form.proofs.operators.split_form.Tie as tie
 
 list-place-fits : tie.Need-add-list
-list-place-fits c = omega (arith, got (c .before .before .before .byte-form .ensures) (c .before .cell .given .1))
+list-place-fits c = let arm = c .before in omega (arith, got (arm .before .before .byte-form .ensures) (arm .cell .given .1))
 
 cell-fits : tie.Need-cast-t12
-cell-fits c = omega (arith, got (c .before .before .before .byte-form .ensures) (c .before .cell .given .1))
+cell-fits c = let arm = c .before in omega (arith, got (arm .before .before .byte-form .ensures) (arm .cell .given .1))
 
 seam : tie.Need-returns
 unfolding splitAt
@@ -21,7 +21,7 @@ seam c =
 
 bad-cell : tie.Need-returns-2
 unfolding splitAt
-bad-cell c = simp (is (c .before .before .before .byte-form .ensures) (c .before .f .given .1))
+bad-cell c = let arm = c .before in simp (is (arm .before .before .byte-form .ensures) (arm .f .given .1))
 
 bad-list : tie.Need-returns-3
 unfolding splitAt

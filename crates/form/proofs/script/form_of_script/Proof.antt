@@ -22,7 +22,7 @@ headed c =
 
 bad-base : tie.Need-returns
 unfolding scriptForm
-bad-base c = simp (is (c .before .before .before .byte-form .ensures) (c .before .f .given .1))
+bad-base c = let arm = c .before in simp (is (arm .before .before .byte-form .ensures) (arm .f .given .1))
 
 bad-counts : tie.Need-returns-2
 unfolding scriptForm

@@ -11,7 +11,11 @@ use Rattle.good.proofs.pattern.is_good.Tie as tie
 abbrev entry : tie.Start → Pattern
 entry s = let a = s .args in asLent (a .c) (a .m1) (a .m2) (a .m3)
 
-counted : (c : tie.After-count4) → Counted (entry (c .before .before .before .before .before .before))
+-- the entry, after the four counts
+abbrev start : tie.After-count4 → tie.Start
+start c = c .before .before .before .before .before .before
+
+counted : (c : tie.After-count4) → Counted (entry (start c))
     (c .before .before .before .count .result) (c .before .before .count2 .result) (c .before .count3 .result) (c .count4 .result)
 counted c =
     let a = c .before .before .before in
@@ -24,7 +28,7 @@ counted c =
     }
 
 is-sound-requires : tie.Need-is-sound-requires
-is-sound-requires c κs = stored-matrices (counted c) (c .before .before .before .before .before .before .pre)
+is-sound-requires c κs = stored-matrices (counted c) (start c .pre)
 
 returns : tie.Need-returns
 returns c = rw (good-cells (counted (c .before))) (c .is-sound .ensures)

@@ -8,14 +8,16 @@ use Rattle.listing.proofs.lines.put_face.Tie as tie
 
 returns : tie.Need-returns
 returns c =
-    let start = c .before .before .before .before .before .before .before in
-    let below = rw (toZ-ofZ (start .fits .z)) at (c .before .before .before .before .before .if1 .taken) in
+    let test = c .before .before .before .before .before in
+    let start = test .before .before in
+    let below = rw (toZ-ofZ (start .fits .z)) at (test .if1 .taken) in
     rw (face-minus (start .args .i) (start .args .z) below) (c .before .before .put-field .ensures .put)
 
 returns-2 : tie.Need-returns-2
 returns-2 c =
-    let start = c .before .before .before .before .before .before .before .before in
-    let above = rw (toZ-ofZ (start .fits .z)) at (c .before .before .before .before .before .if2 .taken) in
+    let test = c .before .before .before .before .before in
+    let start = test .before .before .before in
+    let above = rw (toZ-ofZ (start .fits .z)) at (test .if2 .taken) in
     rw (face-plus (start .args .i) (start .args .z) above) (c .before .before .put-field2 .ensures .put)
 
 returns-3 : tie.Need-returns-3

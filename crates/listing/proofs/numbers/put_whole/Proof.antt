@@ -11,9 +11,10 @@ use Rattle.listing.proofs.numbers.put_whole.Tie as tie
 
 cast-put-labelled : tie.Need-cast-put-labelled
 cast-put-labelled c =
-    let start = c .before .before .before .before in
+    let test = c .before .before in
+    let start = test .before .before in
     rw (minus-is (start .args .z) (start .pre .small))
-    (minus-cast (start .args .z) (rw (toZ-ofZ (start .fits .z)) at (c .before .before .if1 .taken)), rw neg-size (omega arith))
+    (minus-cast (start .args .z) (rw (toZ-ofZ (start .fits .z)) at (test .if1 .taken)), rw neg-size (omega arith))
 
 put-labelled-requires : tie.Need-put-labelled-requires
 put-labelled-requires c κs =
@@ -22,8 +23,9 @@ put-labelled-requires c κs =
 
 returns : tie.Need-returns
 returns c =
-    let start = c .before .before .before .before .before .before .before in
-    let below = rw (toZ-ofZ (start .fits .z)) at (c .before .before .before .before .before .if1 .taken) in
+    let test = c .before .before .before .before .before in
+    let start = test .before .before in
+    let below = rw (toZ-ofZ (start .fits .z)) at (test .if1 .taken) in
     record {
       put =
           rw (whole-minus _ below)
@@ -33,17 +35,19 @@ returns c =
 
 cast-put-decimal : tie.Need-cast-put-decimal
 cast-put-decimal c =
-    let start = c .before .before .before in
+    let test = c .before in
+    let start = test .before .before in
     let e = toZ-ofZ (start .fits .z) in
-    rw e (plus-cast (start .args .z) (rw e at (c .before .if1 .left)), omega arith)
+    rw e (plus-cast (start .args .z) (rw e at (test .if1 .left)), omega arith)
 
 returns-2 : tie.Need-returns-2
 returns-2 c =
-    let start = c .before .before .before .before .before .before in
+    let test = c .before .before .before .before in
+    let start = test .before .before in
     let e = toZ-ofZ (start .fits .z) in
     record {
       put =
-          rw (whole-plus _ (rw e at (c .before .before .before .before .if1 .left)))
+          rw (whole-plus _ (rw e at (test .if1 .left)))
           (rw e at (c .before .before .put-decimal .ensures .put));
       most = omega arith;
     }

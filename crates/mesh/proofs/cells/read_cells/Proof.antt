@@ -30,23 +30,30 @@ read-cell-requires c κs =
     let loop = c .before .before .before .before in
     record { dim = loop .before .before .pre .dim; held = loop .loop .inv .held }
 
+-- from a refused cell to its reading, and from there to the turn that it is read in
+abbrev reading : tie.Then1 Inv-loop μ-loop → tie.After-read-cell Inv-loop μ-loop
+reading c = c .before .before .before .before .before
+
+abbrev turn : tie.After-read-cell Inv-loop μ-loop → tie.At-loop Inv-loop μ-loop
+turn c = c .before .before .before .before .before
+
 -- every pattern on the way is as long as the one at entry
 at-entry : (c : tie.At-loop Inv-loop μ-loop) → Sized (entry (c .before .before))
 at-entry c = c .before .before .pre .held .sized
 
 same-length : tie.Need-same-length Inv-loop μ-loop
-same-length c = let call = c .before .before .before .before .before in call .read-cell .ensures .held .sized .size1 ∙ sym (at-entry (call .before .before .before .before .before) .size1)
+same-length c = reading c .read-cell .ensures .held .sized .size1 ∙ sym (at-entry (turn (reading c)) .size1)
 
 same-length-2 : tie.Need-same-length-2 Inv-loop μ-loop
-same-length-2 c = let call = c .before .before .before .before .before in call .read-cell .ensures .held .sized .size2 ∙ sym (at-entry (call .before .before .before .before .before) .size2)
+same-length-2 c = reading c .read-cell .ensures .held .sized .size2 ∙ sym (at-entry (turn (reading c)) .size2)
 
 same-length-3 : tie.Need-same-length-3 Inv-loop μ-loop
-same-length-3 c = let call = c .before .before .before .before .before in call .read-cell .ensures .held .sized .size3 ∙ sym (at-entry (call .before .before .before .before .before) .size3)
+same-length-3 c = reading c .read-cell .ensures .held .sized .size3 ∙ sym (at-entry (turn (reading c)) .size3)
 
 stopped : tie.Need-returns Inv-loop μ-loop
 stopped c =
-    let call = c .before .before .before .before .before in
-    let loop = call .before .before .before .before .before in
+    let call = reading c in
+    let loop = turn call in
     let start = loop .before .before in
     let a = start .args in
     cells-stop (a .s .now) (a .k) (a .n) (first start) (loop .loop .inv) (call .read-cell .ensures)
@@ -56,7 +63,7 @@ loop-again : tie.Need-loop-again Inv-loop μ-loop
 loop-again c =
     let test = c .before in
     let call = test .before .before .before .before .before in
-    let loop = call .before .before .before .before .before in
+    let loop = turn call in
     let start = loop .before .before in
     let a = start .args in
     cells-more (a .s .now) (a .k) (a .n) (first start) (loop .loop .inv) (call .read-cell .ensures)
