@@ -9,6 +9,7 @@ ghost use Rattle.operators.specs.Append.{tried, setIf, appended, Storabl
 use grid::changes::set_column;
 use grid::runs::are_zero;
 use grid::sums::columns_cancel;
+use maths::SIDE;
 use rules::counts::Counts;
 
 // The column is stored at `at`, if it is not zero.
@@ -16,7 +17,7 @@ fn set_some(column: &[i8], m: &mut [i8], at: usize) -> bool
     requires { ⌜ Storable (now column) (now m) at ⌝ }
     ensures { λ r. ⌜ tried r (now (m .exit)) ≡ setIf (not (allZero (coefficients (now (column .entry))))) at (now (column .entry)) (now (m .entry)) ⌝ }
 {
-    if are_zero(column, 0, 96) {
+    if are_zero(column, 0, SIDE) {
         return false;
     }
     set_column(m, at, column);

@@ -14,6 +14,7 @@ ghost use Rattle.operators.specs.Part.{ListForm, Numbers, Choice, Takeab
 use grid::byte::eq8;
 use grid::byte::is_zero8;
 use grid::runs::are_zero;
+use maths::SIDE;
 
 // One byte.
 fn byte_at(s: &[u8], at: usize) -> usize
@@ -55,8 +56,8 @@ fn take_head(m: &[i8], cell: usize, taken: &mut [i8])
     requires { ⌜ LineFor (now m) cell (now taken) ⌝ }
     ensures { λ _. ⌜ now (taken .exit) ≡ partOf (head (column (now (m .entry)) cell)) (column (now (m .entry)) cell) ⌝ }
 {
-    let from = 96 * cell;
-    for i in 0..96usize {
+    let from = SIDE * cell;
+    for i in 0..SIDE {
         taken[i] = head8(m[from + i]);
     }
 }
@@ -67,7 +68,7 @@ fn take_listed(s: &[u8], list: usize, m: &[i8], cell: usize, taken: &mut [i8])
     requires { ⌜ Takeable (now m) cell (now taken) ⌝ }
     ensures { λ _. ⌜ now (taken .exit) ≡ partOf (listed (numbers (now (s .entry)) list)) (column (now (m .entry)) cell) ⌝ }
 {
-    let from = 96 * cell;
+    let from = SIDE * cell;
     let count = byte_at(s, list);
     for l in 0..count {
         let i = byte_at(s, list + 1 + l);
@@ -81,7 +82,7 @@ fn listed_there(s: &[u8], list: usize, m: &[i8], cell: usize) -> bool
     requires { ⌜ Line (now m) cell ⌝ }
     ensures { λ r. ⌜ r ≡ allThere (numbers (now (s .entry)) list) (column (now (m .entry)) cell) ⌝ }
 {
-    let from = 96 * cell;
+    let from = SIDE * cell;
     let count = byte_at(s, list);
     for l in 0..count {
         let i = byte_at(s, list + 1 + l);
@@ -97,9 +98,9 @@ fn is_whole(m: &[i8], cell: usize, taken: &[i8]) -> bool
     requires { ⌜ LineFor (now m) cell (now taken) ⌝ }
     ensures { λ r. ⌜ r ≡ all 96 (λ i. eqZ (column (now (m .entry)) cell i) (coefficients (now (taken .entry)) i)) ⌝ }
 {
-    let from = 96 * cell;
+    let from = SIDE * cell;
     let mut same = true;
-    for i in 0..96usize {
+    for i in 0..SIDE {
         same = same & eq8(m[from + i], taken[i]);
     }
     same
@@ -110,7 +111,7 @@ fn is_true_part(m: &[i8], cell: usize, taken: &[i8]) -> bool
     requires { ⌜ LineFor (now m) cell (now taken) ⌝ }
     ensures { λ r. ⌜ r ≡ isTruePart (coefficients (now (taken .entry))) (column (now (m .entry)) cell) ⌝ }
 {
-    !are_zero(taken, 0, 96) && !is_whole(m, cell, taken)
+    !are_zero(taken, 0, SIDE) && !is_whole(m, cell, taken)
 }
 
 // The chosen part, and whether it is at least one face, not all, each with a non-zero entry.

@@ -11,13 +11,14 @@ use grid::runs::are_units;
 use grid::runs::are_zero;
 use grid::runs::times_of;
 use grid::sums::add_columns;
+use maths::SIDE;
 
 // Whether the entries are within -1 to 1, and not all 0.
 fn is_proper(v: &[i8]) -> bool
     requires { ⌜ length (now v) ≡ 96 ⌝ }
     ensures { λ r. ⌜ r ≡ proper (coefficients (now (v .entry))) ⌝ }
 {
-    are_units(v, 0, 96) && !are_zero(v, 0, 96)
+    are_units(v, 0, SIDE) && !are_zero(v, 0, SIDE)
 }
 
 // Whether there is one -1 and one +1.
@@ -33,7 +34,7 @@ fn is_seam(v: &[i8]) -> bool
     requires { ⌜ length (now v) ≡ 96 ⌝ }
     ensures { λ r. ⌜ r ≡ proper (coefficients (now (v .entry))) && oneEach (coefficients (now (v .entry))) ⌝ }
 {
-    are_units(v, 0, 96) && one_each(v)
+    are_units(v, 0, SIDE) && one_each(v)
 }
 
 // The boundary of what is taken of a cell of dimension dim, and whether a dividing cell can have it. A corner has none.
@@ -45,11 +46,11 @@ pub(crate) fn take_boundary(dim: u8, low: &[i8], taken: &[i8], edge: &mut [i8]) 
     match dim {
         1 => true,
         2 => {
-            add_columns(edge, low, 96, taken, 0);
+            add_columns(edge, low, SIDE, taken, 0);
             is_seam(edge)
         }
         _ => {
-            add_columns(edge, low, 96, taken, 0);
+            add_columns(edge, low, SIDE, taken, 0);
             is_proper(edge)
         }
     }

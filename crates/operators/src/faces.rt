@@ -7,9 +7,9 @@ ghost use Rattle.operators.specs.Held.{MakeForm};
 ghost use Rattle.operators.specs.Column.{FaceForm, IsFace, AddableAt, Drawable, Drawn};
 
 // One listed face.
-pub struct Face {
-    pub number: usize,
-    pub sign: i8,
+struct Face {
+    number: usize,
+    sign: i8,
 }
 
 // How many faces a cell of dimension dim lists.

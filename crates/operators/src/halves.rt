@@ -10,6 +10,7 @@ use grid::byte::is_zero8;
 use grid::changes::copy_row;
 use grid::changes::set_column;
 use grid::changes::set_entry;
+use maths::SIDE;
 
 // An entry, unless it is taken off.
 fn rest8(x: i8, taken: i8) -> i8
@@ -26,8 +27,8 @@ fn leave_rest(m: &mut [i8], c: usize, taken: &[i8])
     requires { ⌜ LineFor (now m) c (now taken) ⌝ }
     ensures { λ _. ⌜ now (m .exit) ≡ over (withRest c (now (taken .entry))) (now (m .entry)) ⌝ }
 {
-    let from = 96 * c;
-    for i in 0..96usize {
+    let from = SIDE * c;
+    for i in 0..SIDE {
         m[from + i] = rest8(m[from + i], taken[i]);
     }
 }

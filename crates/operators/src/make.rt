@@ -9,6 +9,8 @@ ghost use Rattle.rules.specs.Lending.{asLent, atEntry, left};
 ghost use Rattle.operators.specs.Held.{Held, MakeForm};
 use crate::append::append;
 use crate::faces::draw;
+use maths::MOST;
+use maths::SIDE;
 use rules::answers::Applied;
 use rules::counts::Counts;
 use rules::refusals::ACCEPTED;
@@ -41,14 +43,14 @@ pub fn make(
     ensures { λ r. ⌜ left r m1 m2 m3 ≡ applied (atEntry c m1 m2 m3) (makeStep dim (madeOf (now (s .entry)) dim list) (complex (atEntry c m1 m2 m3))) ⌝ }
 {
     let k = dim as usize;
-    let mut column = [0i8; 96];
+    let mut column = [0i8; SIDE];
     if !draw(s, dim, list, c.n[below(k)], &mut column) {
         return Applied {
             counts: c,
             refusal: NO_SUCH_CELL,
         };
     }
-    if 96 <= c.n[k] {
+    if MOST <= c.n[k] {
         return Applied {
             counts: c,
             refusal: NO_ROOM,

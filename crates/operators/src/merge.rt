@@ -20,6 +20,7 @@ use grid::runs::are_units;
 use grid::runs::are_zero;
 use grid::tests::row_last;
 use grid::tests::row_times;
+use maths::SIDE;
 use rules::answers::Applied;
 use rules::counts::Counts;
 use rules::refusals::ACCEPTED;
@@ -46,9 +47,9 @@ fn add_up(d: &[i8], a: usize, b: usize, sums: &mut [i8])
     requires { ⌜ Addends (now d) a b (now sums) ⌝ }
     ensures { λ _. ⌜ now (sums .exit) ≡ table 96 (summed (entries (now (d .entry))) a b) ⌝ }
 {
-    let s = 96 * a;
-    let t = 96 * b;
-    for i in 0..96usize {
+    let s = SIDE * a;
+    let t = SIDE * b;
+    for i in 0..SIDE {
         sums[i] = d[s + i] + d[t + i];
     }
 }
@@ -58,9 +59,9 @@ fn is_proper_sum(d: &[i8], a: usize, b: usize) -> bool
     requires { ⌜ UnitLines (now d) a b ⌝ }
     ensures { λ r. ⌜ r ≡ proper (summed (entries (now (d .entry))) a b) ⌝ }
 {
-    let mut sums = [0i8; 96];
+    let mut sums = [0i8; SIDE];
     add_up(d, a, b, &mut sums);
-    are_units(&sums, 0, 96) && !are_zero(&sums, 0, 96)
+    are_units(&sums, 0, SIDE) && !are_zero(&sums, 0, SIDE)
 }
 
 // The cells that cell t lies between, in the matrix that has its row.
@@ -71,7 +72,7 @@ fn sides_in(d: &[i8], t: usize) -> Sides
     if !is_between(d, t) {
         return Sides::Refused(NOT_BETWEEN);
     }
-    let b = row_last(d, t, 96);
+    let b = row_last(d, t, SIDE);
     let a = row_last(d, t, b);
     if !is_proper_sum(d, a, b) {
         return Sides::Refused(WRONG_SUM);

@@ -15,6 +15,8 @@ use crate::divider::take_boundary;
 use crate::halves::halve;
 use crate::halves::repeat_row;
 use crate::halves::set_divider;
+use maths::MOST;
+use maths::SIDE;
 use rules::answers::Applied;
 use rules::counts::Counts;
 use rules::refusals::ACCEPTED;
@@ -39,11 +41,11 @@ fn divide(
     requires { ⌜ Splittable dim cell t new (now low) (now mid) (now high) ⌝ }
     ensures { λ r. ⌜ around r (now (low .exit)) (now (mid .exit)) (now (high .exit)) ≡ divided dim cell t new (chosen dim (chosenOf (now (s .entry)) dim list) (column (now (mid .entry)) cell)) (now (low .entry)) (now (mid .entry)) (now (high .entry)) ⌝ }
 {
-    let mut taken = [0i8; 96];
+    let mut taken = [0i8; SIDE];
     if !take_part(dim, s, list, mid, cell, &mut taken) {
         return WRONG_PART;
     }
-    let mut edge = [0i8; 96];
+    let mut edge = [0i8; SIDE];
     if !take_boundary(dim, low, &taken, &mut edge) {
         return WRONG_DIVIDER;
     }
@@ -102,7 +104,7 @@ pub fn split(
             refusal: NO_SUCH_CELL,
         };
     }
-    if !((below < 96) & (here < 96)) {
+    if !((below < MOST) & (here < MOST)) {
         return Applied {
             counts: c,
             refusal: NO_ROOM,

@@ -1,10 +1,10 @@
 -- `operators::chosen::faces_below` meets its contract: a seam lists none, and of a list all numbers passed are below n.
 use mathlib.Core.Path.{_∙_}
-use Prim.Native.Nat.{_+_, _-_}
+use Prim.Native.Nat.{_+_, _-_, _<_}
 use native.Mathlib.Omega.{arith}
 use borrow.Author.Tests.{lt-ltb, le-ltb}
 use lib.Dec.{ltb}
-use lib.ListN.{getD}
+use lib.ListN.{length, getD}
 use Rattle.grid.proofs.Joined.{Passed, passed-none, passed-more, passed-not, passed-all}
 use Rattle.operators.proofs.chosen.Listing.{none-listed, all-listed}
 use Rattle.operators.proofs.chosen.faces_below.Statement.{statement}
@@ -15,6 +15,10 @@ Inv-loop s dim list n count l₀ l = Passed (λ l. ltb (getD s (list + 1 + l) 0)
 
 abbrev μ-loop : tie.MeasureT-loop
 μ-loop s dim list n count l₀ l = count - l
+
+-- every number of a list is there
+there : (c : tie.In-loop Inv-loop μ-loop) → let a = c .before .before .before .before .before .args in a .list + getD (a .s .now) (a .list) 0 < length (a .s .now)
+there c = c .before .before .before .before .before .pre .inside (omega arith)
 
 returns : tie.Need-returns Inv-loop μ-loop
 returns c = none-listed _ _ _ _ (c .if1 .taken)
@@ -36,7 +40,7 @@ faces-below-spec =
     tie.close (tie.spec Inv-loop μ-loop returns
     (λ c κs. omega (arith, c .before .before .pre .inside (omega arith)))
     (λ c. passed-none _ _)
-    (λ c. omega (arith, c .before .before .before .before .before .pre .inside (omega arith)))
-    (λ c. omega (arith, c .before .before .before .before .before .pre .inside (omega arith)))
-    (λ c κs. omega (arith, c .before .before .before .before .before .pre .inside (omega arith)))
+    (λ c. omega (arith, there c))
+    (λ c. omega (arith, there c))
+    (λ c κs. omega (arith, there c))
     returns-2 (λ c. omega arith) (λ c. omega arith) loop-again returns-3)

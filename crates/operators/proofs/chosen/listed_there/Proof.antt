@@ -21,19 +21,24 @@ Inv-loop s list m cell from count l₀ l =
 abbrev μ-loop : tie.MeasureT-loop
 μ-loop s list m cell from count l₀ l = count - l
 
+-- the start, before the loop
+abbrev start : tie.At-loop Inv-loop μ-loop → tie.Start Inv-loop μ-loop
+start turn = turn .before .before .before
+
 -- a listed number is below 96
 small : (c : tie.After-byte-at2 Inv-loop μ-loop) → c .byte-at2 .result < 96
 small c =
-    let a = c .before .before in
-    omega (arith, c .byte-at2 .ensures, a .before .before .before .pre .0 .low (a .loop .l) (omega arith))
+    let turn = c .before .before in
+    let (numbered, line) = start turn .pre in
+    omega (arith, c .byte-at2 .ensures, numbered .low (turn .loop .l) (omega arith))
 
 -- what was looked at
-told : (c : tie.After-is-zero8 Inv-loop μ-loop) → let a = c .before .before .before .before in let x = a .before .before .before .args in
-    isZero (column (now (x .m)) (x .cell) (numbers (now (x .s)) (x .list) .number (a .loop .l))) ≡ c .is-zero8 .result
+told : (c : tie.After-is-zero8 Inv-loop μ-loop) → let turn = c .before .before .before .before in let x = start turn .args in
+    isZero (column (now (x .m)) (x .cell) (numbers (now (x .s)) (x .list) .number (turn .loop .l))) ≡ c .is-zero8 .result
 told c =
     let b = c .before .before in
-    let p = b .before .before .before .before .before .pre in
-    let e = back w8 (c .before .is-zero8-arg .given) ∙ column-entry _ _ _ (small b) (p .1 .inside) in
+    let (numbered, line) = start (b .before .before) .pre in
+    let e = back w8 (c .before .is-zero8-arg .given) ∙ column-entry _ _ _ (small b) (line .inside) in
     rw (← b .byte-at2 .ensures) (sym (c .is-zero8 .ensures ∙ ap isZero e))
 
 returns : tie.Need-returns Inv-loop μ-loop

@@ -17,20 +17,29 @@ abbrev μ-loop : tie.MeasureT-loop
 μ-loop s list m cell taken₀ from count l₀ taken l = count - l
 
 loop-holds : tie.Need-loop-holds Inv-loop μ-loop
-loop-holds c = mark-begin (c .before .before .pre .1 .blank)
+loop-holds c = let (numbered, takeable) = c .before .before .pre in mark-begin (takeable .blank)
+
+-- the start, before the loop
+abbrev start : tie.At-loop Inv-loop μ-loop → tie.Start Inv-loop μ-loop
+start turn = turn .before .before .before
 
 -- a listed number is below 96
 small : (c : tie.After-byte-at2 Inv-loop μ-loop) → c .byte-at2 .result < 96
 small c =
-    let a = c .before .before in
-    omega (arith, c .byte-at2 .ensures, a .before .before .before .pre .0 .low (a .loop .l) (omega arith))
+    let turn = c .before .before in
+    let (numbered, takeable) = start turn .pre in
+    omega (arith, c .byte-at2 .ensures, numbered .low (turn .loop .l) (omega arith))
 
 loop-again : tie.Need-loop-again Inv-loop μ-loop
 loop-again c =
-    let a = c .before .before .before in
+    let turn = c .before .before .before in
+    let (numbered, takeable) = start turn .pre in
     let h = small (c .before) in
-    mark-more (a .loop .inv) (omega arith) (c .before .byte-at2 .ensures) h
-    (back w8 (c .taken .given) ∙ column-entry _ _ _ h (a .before .before .before .pre .1 .line .inside))
+    mark-more (turn .loop .inv) (omega arith) (c .before .byte-at2 .ensures) h
+    (back w8 (c .taken .given) ∙ column-entry _ _ _ h (takeable .line .inside))
+
+same-length : tie.Need-same-length Inv-loop μ-loop
+same-length c = let (numbered, takeable) = start (c .before) .pre in c .before .loop .inv .size ∙ sym (takeable .blank .size)
 
 returns : tie.Need-returns Inv-loop μ-loop
 returns c = mark-end (c .before .loop .inv) (omega arith)
@@ -39,5 +48,4 @@ pub take-listed-spec : {M : Type 1} → statement M
 take-listed-spec =
     tie.close (tie.spec Inv-loop μ-loop (λ c. omega arith) (λ c κs. omega arith) loop-holds (λ c. omega arith) (λ c. omega arith) (λ c κs. omega arith)
     (λ c. omega (arith, small c)) (λ c. omega (arith, small c)) (λ c. omega (arith, small (c .before), c .before .before .before .loop .inv .size))
-    (λ c. omega arith) (λ c. omega arith) loop-again
-    (λ c. c .before .loop .inv .size ∙ sym (c .before .before .before .before .pre .1 .blank .size)) returns)
+    (λ c. omega arith) (λ c. omega arith) loop-again same-length returns)

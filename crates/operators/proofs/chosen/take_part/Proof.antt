@@ -6,34 +6,38 @@ use Rattle.operators.proofs.chosen.Choices.{head-taken, listed-taken, l
 use Rattle.operators.proofs.chosen.take_part.Statement.{statement}
 use Rattle.operators.proofs.chosen.take_part.Tie as tie
 
+-- the start, seen from where the listed faces are taken
+abbrev start : tie.After-take-listed → tie.Start
+start taken = taken .before .before .before .before
+
 returns : tie.Need-returns
 returns c =
-    let b = c .before .before .before in
-    head-taken _ _ _ _ (b .before .before .if1 .taken) (b .take-head .ensures) (c .is-true-part .ensures)
+    let taken = c .before .before .before in
+    head-taken _ _ _ _ (taken .before .before .if1 .taken) (taken .take-head .ensures) (c .is-true-part .ensures)
 
 take-listed-requires : tie.Need-take-listed-requires
 take-listed-requires c κs =
-    let a = c .before .before .before in
-    (a .pre .0 .numbered (omega arith), a .pre .1)
+    let (choice, takeable) = c .before .before .before .pre in
+    (choice .numbered (omega arith), takeable)
 
 listed-there-requires : tie.Need-listed-there-requires
 listed-there-requires c κs =
-    let a = c .before .before .before .before .before in
-    (a .pre .0 .numbered (omega arith), a .pre .1 .line)
+    let (choice, takeable) = c .before .before .before .before .before .pre in
+    (choice .numbered (omega arith), takeable .line)
 
 returns-2 : tie.Need-returns-2
 returns-2 c =
-    let b = c .before .before .before in
-    let d = b .before .before in
-    let a = d .before .before .before .before in
-    listed-taken _ _ _ _ (a .pre .0 .numbered (omega arith)) (omega arith) (d .take-listed .ensures)
-    (sym (b .listed-there .ensures) ∙ c .before .before .if2 .taken) (c .is-true-part2 .ensures)
+    let there = c .before .before .before in
+    let taken = there .before .before in
+    let (choice, takeable) = start taken .pre in
+    listed-taken _ _ _ _ (choice .numbered (omega arith)) (omega arith) (taken .take-listed .ensures)
+    (sym (there .listed-there .ensures) ∙ c .before .before .if2 .taken) (c .is-true-part2 .ensures)
 
 returns-3 : tie.Need-returns-3
 returns-3 c =
-    let b = c .before .before .before in
-    let a = b .before .before .before .before in
-    listed-missing _ _ _ _ (a .pre .0 .numbered (omega arith)) (omega arith) (b .take-listed .ensures) (c .before .listed-there .ensures) (c .if2 .left)
+    let taken = c .before .before .before in
+    let (choice, takeable) = start taken .pre in
+    listed-missing _ _ _ _ (choice .numbered (omega arith)) (omega arith) (taken .take-listed .ensures) (c .before .listed-there .ensures) (c .if2 .left)
 
 pub take-part-spec : {M : Type 1} → statement M
 take-part-spec =

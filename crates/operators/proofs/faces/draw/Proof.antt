@@ -23,44 +23,48 @@ face-count-requires c κs = c .before .pre .bytes
 loop-holds : tie.Need-loop-holds Inv-loop μ-loop
 loop-holds c = summed-none _ _ (c .before .before .pre .blank)
 
+-- the moments: the start, a turn of the loop
+abbrev start : tie.At-loop Inv-loop μ-loop → tie.Start Inv-loop μ-loop
+start loop = loop .before .before .before
+
+abbrev turn : tie.After-face-at Inv-loop μ-loop → tie.At-loop Inv-loop μ-loop
+turn call = call .before .before
+
 -- face l is one of the list
-listed : (c : tie.In-loop Inv-loop μ-loop) → FaceForm (c .before .before .before .before .args .s .now) (c .before .before .before .before .args .dim) (c .before .before .before .before .args .list) (c .before .loop .l)
-listed c =
-    let call = c .before .before in
-    record { bytes = call .before .before .pre .bytes; below = omega (arith, call .face-count .ensures) }
+listed : (c : tie.In-loop Inv-loop μ-loop) → let a = start (c .before) .args in FaceForm (a .s .now) (a .dim) (a .list) (c .before .loop .l)
+listed c = record { bytes = start (c .before) .pre .bytes; below = omega (arith, c .before .before .face-count .ensures) }
 
 face-at-requires : tie.Need-face-at-requires Inv-loop μ-loop
 face-at-requires c κs = listed c
 
 same-length : tie.Need-same-length Inv-loop μ-loop
-same-length c = let loop = c .before .before .before .before in loop .loop .inv .size ∙ sym (loop .before .before .before .pre .blank .size)
+same-length c = let t = c .before .before .before .before in t .loop .inv .size ∙ sym (start t .pre .blank .size)
 
 returns : tie.Need-returns Inv-loop μ-loop
 returns c =
     let call = c .before .before in
-    not-drawn _ _ (call .before .before .loop .inv) (listed (call .before) .below) (omega (arith, c .if1 .taken, call .face-at .ensures .number))
+    not-drawn _ _ (turn call .loop .inv) (listed (call .before) .below) (omega (arith, c .if1 .taken, call .face-at .ensures .number))
 
 -- the face has the sign of face l
-sign-is : (c : tie.After-face-at Inv-loop μ-loop) → let a = c .before .before .before .before .before .args in
-    toZ w8 (ofZ w8 (c .face-at .result .sign)) ≡ madeOf (a .s .now) (a .dim) (a .list) .sign (c .before .before .loop .l)
-sign-is c = let a = c .before .before .before .before .before .args in unit-back (c .face-at .ensures .sign) (sign-unit (a .s .now) (a .list) (a .dim) (c .before .before .loop .l))
+sign-is : (c : tie.After-face-at Inv-loop μ-loop) → let a = start (turn c) .args in
+    toZ w8 (ofZ w8 (c .face-at .result .sign)) ≡ madeOf (a .s .now) (a .dim) (a .list) .sign (turn c .loop .l)
+sign-is c = let a = start (turn c) .args in unit-back (c .face-at .ensures .sign) (sign-unit (a .s .now) (a .list) (a .dim) (turn c .loop .l))
 
 add-at-requires : tie.Need-add-at-requires Inv-loop μ-loop
 add-at-requires c κs =
     let call = c .before .before .before .before in
-    let loop = call .before .before in
-    let start = loop .before .before .before in
-    let a = start .args in
+    let t = turn call in
+    let a = start t .args in
     record {
-      inside = omega (arith, loop .loop .inv .size, start .pre .few);
-      small = summed-small _ _ (loop .loop .inv) (faces-few (start .pre .bytes)) (sign-unit (a .s .now) (a .list) (a .dim)) (call .face-at .result .number);
-      unit = rw (sign-is call) (sign-unit (a .s .now) (a .list) (a .dim) (loop .loop .l));
+      inside = omega (arith, t .loop .inv .size, start t .pre .few);
+      small = summed-small _ _ (t .loop .inv) (faces-few (start t .pre .bytes)) (sign-unit (a .s .now) (a .list) (a .dim)) (call .face-at .result .number);
+      unit = rw (sign-is call) (sign-unit (a .s .now) (a .list) (a .dim) (t .loop .l));
     }
 
 add-l : tie.Need-add-l Inv-loop μ-loop
 add-l c =
-    let loop = c .before .before .before .before .before .before .before .before in
-    omega (arith, loop .loop .inv .upto, faces-few (loop .before .before .before .pre .bytes))
+    let t = turn (c .before .before .before .before .before .before) in
+    omega (arith, t .loop .inv .upto, faces-few (start t .pre .bytes))
 
 loop-less : tie.Need-loop-less Inv-loop μ-loop
 loop-less c = omega arith
@@ -68,13 +72,12 @@ loop-less c = omega arith
 loop-again : tie.Need-loop-again Inv-loop μ-loop
 loop-again c =
     let call = c .before .before .before .before .before .before in
-    let loop = call .before .before in
-    let start = loop .before .before .before in
-    summed-more _ _ (loop .loop .inv) (listed (call .before) .below) (start .pre .few) (c .before .before .before .before .if1 .left)
+    let t = turn call in
+    summed-more _ _ (t .loop .inv) (listed (call .before) .below) (start t .pre .few) (c .before .before .before .before .if1 .left)
     (call .face-at .ensures .number) (sign-is call) (c .before .add-at .ensures)
 
 same-length-2 : tie.Need-same-length-2 Inv-loop μ-loop
-same-length-2 c = c .before .loop .inv .size ∙ sym (c .before .before .before .before .pre .blank .size)
+same-length-2 c = c .before .loop .inv .size ∙ sym (start (c .before) .pre .blank .size)
 
 returns-2 : tie.Need-returns-2 Inv-loop μ-loop
 returns-2 c = drawn _ _ (c .before .loop .inv) (omega (arith, c .before .before .face-count .ensures))

@@ -1,8 +1,7 @@
 -- `operators::flip::flip` meets its contract: the cell's number is tested against its count, and `flip_at` leaves what the definition says.
 use native.Mathlib.Omega.{arith}
-use denote.Ref.{now}
 use borrow.Author.Needs.{needs}
-use Rattle.rules.specs.Complex.{pattern}
+use Rattle.rules.specs.Lending.{asLent}
 use Rattle.operators.specs.Cells.{Cell}
 use Rattle.operators.proofs.patterns.Patterns.{absent, found}
 use Rattle.operators.proofs.flip.FlipLaws.{flip-absent, flip-done}
@@ -11,11 +10,11 @@ use Rattle.operators.proofs.flip.flip.Tie as tie
 
 -- past the test there is such a cell
 here : (c : tie.Else1) → let x = c .before .before .args in
-    Cell 1 3 (pattern (x .t1) (now (x .m1)) (now (x .m2)) (now (x .m3))) (x .dim) (x .cell)
-here c = let s = c .before .before in found (s .pre .0) (omega arith) (s .pre .1) (c .if1 .left)
+    Cell 1 3 (asLent (x .t1) (x .m1) (x .m2) (x .m3)) (x .dim) (x .cell)
+here c = let (range, held) = c .before .before .pre in found range (omega arith) held (c .if1 .left)
 
 returns : tie.Need-returns
-returns c = flip-absent (absent (c .before .before .pre .0) (omega arith) (c .if1 .taken))
+returns c = let (range, held) = c .before .before .pre in flip-absent (absent range (omega arith) (c .if1 .taken))
 
 returns-2 : tie.Need-returns-2
 returns-2 c =

@@ -1,10 +1,9 @@
 -- `operators::kill::kill` meets its contract: its tests are those of the definition in their order, and `kill_at` and `shrunk` leave what it says.
 use mathlib.Core.Path.{sym, _∙_}
 use native.Mathlib.Omega.{arith}
-use denote.Ref.{now}
 use borrow.Author.Needs.{needs}
 use borrow.Author.Tests.{not-true, not-false}
-use Rattle.rules.specs.Complex.{pattern}
+use Rattle.rules.specs.Lending.{asLent}
 use Rattle.operators.specs.Cells.{Cell}
 use Rattle.operators.proofs.patterns.Patterns.{absent, found}
 use Rattle.operators.proofs.kill.KillLaws.{kill-absent, kill-used, kill-done}
@@ -13,23 +12,27 @@ use Rattle.operators.proofs.kill.kill.Tie as tie
 
 -- past the first test there is such a cell
 here : (c : tie.Else1) → let x = c .before .before .args in
-    Cell 0 3 (pattern (x .t1) (now (x .m1)) (now (x .m2)) (now (x .m3))) (x .dim) (x .cell)
-here c = let s = c .before .before in found (s .pre .0) (omega arith) (s .pre .1) (c .if1 .left)
+    Cell 0 3 (asLent (x .t1) (x .m1) (x .m2) (x .m3)) (x .dim) (x .cell)
+here c = let (range, held) = c .before .before .pre in found range (omega arith) held (c .if1 .left)
+
+-- the moment of that test, seen from where the row above was tested
+abbrev test : tie.After-is-free → tie.Else1
+test free = free .before .before .before .before
 
 returns : tie.Need-returns
-returns c = kill-absent (absent (c .before .before .pre .0) (omega arith) (c .if1 .taken))
+returns c = let (range, held) = c .before .before .pre in kill-absent (absent range (omega arith) (c .if1 .taken))
 
 returns-2 : tie.Need-returns-2
 returns-2 c =
     let f = c .before in
-    kill-used (here (f .before .before .before .before)) (sym (f .is-free .ensures) ∙ not-true _ (c .if2 .taken))
+    kill-used (here (test f)) (sym (f .is-free .ensures) ∙ not-true _ (c .if2 .taken))
 
 returns-3 : tie.Need-returns-3
 returns-3 c =
     let u = c .before .before .before .before .before .before .before .before in
     let f = u .before in
     rw (c .shrunk .ensures)
-    (kill-done (here (f .before .before .before .before)) (sym (f .is-free .ensures) ∙ not-false _ (u .if2 .left))
+    (kill-done (here (test f)) (sym (f .is-free .ensures) ∙ not-false _ (u .if2 .left))
     (c .before .before .before .before .kill-at .ensures))
 
 pub kill-spec : {M : Type 1} → statement M

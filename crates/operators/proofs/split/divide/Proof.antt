@@ -5,55 +5,64 @@ use Rattle.operators.proofs.split.Divisions.{takeable, part-under, two-
 use Rattle.operators.proofs.split.divide.Statement.{statement}
 use Rattle.operators.proofs.split.divide.Tie as tie
 
+-- the moments: the start, the part taken, its test passed, its boundary taken
+abbrev start : tie.After-take-part → tie.Start
+start part = part .before .before .before .before
+
+abbrev part : tie.Else1 → tie.After-take-part
+part passed = passed .before .before
+
+abbrev passed : tie.After-take-boundary → tie.Else1
+passed edge = edge .before .before .before .before
+
 take-part-requires : tie.Need-take-part-requires
-take-part-requires c κs = let a = c .before .before .before in (a .pre .0, takeable (a .pre .1))
+take-part-requires c κs = let (choice, fits) = c .before .before .before .pre in (choice, takeable fits)
 
 returns : tie.Need-returns
 returns c = wrong-part _ _ _ _ _ _ _ _ (c .before .before .take-part .ensures) (c .if1 .taken)
 
 take-boundary-requires : tie.Need-take-boundary-requires
 take-boundary-requires c κs =
-    let b = c .before .before .before .before .before in
-    let a = b .before .before .before .before in
-    (part-under (a .pre .1) (b .take-part .ensures), blank)
+    let p = part (c .before .before .before) in
+    let (choice, fits) = start p .pre in
+    (part-under fits (p .take-part .ensures), blank)
 
 returns-2 : tie.Need-returns-2
 returns-2 c =
-    let d = c .before .before in
-    let b = d .before .before .before .before .before .before in
-    wrong-divider _ _ _ _ _ _ _ _ (b .take-part .ensures) (d .before .before .before .before .if1 .left) (d .take-boundary .ensures) (c .if2 .taken)
+    let edge = c .before .before in
+    let p = passed edge in
+    wrong-divider _ _ _ _ _ _ _ _ (part p .take-part .ensures) (p .if1 .left) (edge .take-boundary .ensures) (c .if2 .taken)
 
 set-divider-requires : tie.Need-set-divider-requires
 set-divider-requires c κs =
-    let d = c .before .before .before .before in
-    let b = d .before .before .before .before .before .before in
-    let a = b .before .before .before .before in
-    new-column (a .pre .1) (b .take-part .ensures) (d .take-boundary .ensures)
+    let edge = c .before .before .before .before in
+    let p = part (passed edge) in
+    let (choice, fits) = start p .pre in
+    new-column fits (p .take-part .ensures) (edge .take-boundary .ensures)
 
 halve-requires : tie.Need-halve-requires
 halve-requires c κs =
-    let d = c .before .before .before .before .before .before .before .before in
-    let b = d .before .before .before .before .before .before in
-    let a = b .before .before .before .before in
-    two-halves (a .pre .1) (b .take-part .ensures)
+    let edge = c .before .before .before .before .before .before .before .before in
+    let p = part (passed edge) in
+    let (choice, fits) = start p .pre in
+    two-halves fits (p .take-part .ensures)
 
 repeat-row-requires : tie.Need-repeat-row-requires
 repeat-row-requires c κs =
-    let d = c .before .before .before .before .before .before .before .before .before .before .before in
-    let b = d .before .before .before .before .before .before in
-    let a = b .before .before .before .before in
-    new-row (a .pre .1)
+    let edge = c .before .before .before .before .before .before .before .before .before .before .before in
+    let (choice, fits) = start (part (passed edge)) .pre in
+    new-row fits
 
 returns-3 : tie.Need-returns-3
 returns-3 c =
-    let u = c .before in
-    let m = u .before .before .before in
-    let l = m .before .before .before .before in
-    let d = l .before .before .before .before .before in
-    let b = d .before .before .before .before .before .before in
-    let a = b .before .before .before .before in
-    all-stored _ _ _ _ _ _ _ _ (b .take-part .ensures) (d .before .before .before .before .if1 .left) (d .take-boundary .ensures) (a .pre .1 .least)
-    (l .before .before .before .if2 .left) (l .set-divider .ensures) (m .halve .ensures) (u .repeat-row .ensures)
+    let high = c .before in
+    let mid = high .before .before .before in
+    let low = mid .before .before .before .before in
+    let edge = low .before .before .before .before .before in
+    let p = passed edge in
+    let (choice, fits) = start (part p) .pre in
+    all-stored _ _ _ _ _ _ _ _ (part p .take-part .ensures) (p .if1 .left) (edge .take-boundary .ensures) (fits .least)
+    (low .before .before .before .if2 .left) (low .set-divider .ensures) (mid .halve .ensures) (high .repeat-row .ensures)
 
 pub divide-spec : {M : Type 1} → statement M
 divide-spec =

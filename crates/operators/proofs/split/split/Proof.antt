@@ -8,62 +8,67 @@ use Rattle.operators.proofs.split.SplitAnswers.{no-such-cell, no-room, 
 use Rattle.operators.proofs.split.split.Statement.{statement}
 use Rattle.operators.proofs.split.split.Tie as tie
 
+-- the moments: the start, the faces tested, room found
+abbrev start : tie.After-faces-below → tie.Start
+start tested = tested .before .before .before .before
+
+abbrev tested : tie.Else2 → tie.After-faces-below
+tested room = room .before .before
+
 faces-below-requires : tie.Need-faces-below-requires
-faces-below-requires c κs = list-form (c .before .before .before .pre .1)
+faces-below-requires c κs = let (held, form) = c .before .before .before .pre in list-form form
 
 returns : tie.Need-returns
 returns c =
     let f = c .before in
-    let a = f .before .before .before .before in
-    no-such-cell (a .pre .0) (a .pre .1) (f .faces-below .ensures) (c .if1 .taken)
+    let (held, form) = start f .pre in
+    no-such-cell held form (f .faces-below .ensures) (c .if1 .taken)
 
 returns-2 : tie.Need-returns-2
 returns-2 c =
     let f = c .before .before in
-    let a = f .before .before .before .before in
-    no-room (a .pre .0) (a .pre .1) (f .faces-below .ensures) (c .before .if1 .left) (c .if2 .taken)
+    let (held, form) = start f .pre in
+    no-room held form (f .faces-below .ensures) (c .before .if1 .left) (c .if2 .taken)
 
 split-at-requires : tie.Need-split-at-requires
 split-at-requires c κs =
-    let t = c .before .before .before in
-    let f = t .before .before in
-    let a = f .before .before .before .before in
-    prepared (a .pre .0) (a .pre .1) (f .faces-below .ensures) (t .before .if1 .left) (t .if2 .left)
+    let room = c .before .before .before in
+    let f = tested room in
+    let (held, form) = start f .pre in
+    prepared held form (f .faces-below .ensures) (room .before .if1 .left) (room .if2 .left)
 
 returns-3 : tie.Need-returns-3
 returns-3 c =
-    let d = c .before .before .before .before in
-    let t = d .before .before .before .before in
-    let f = t .before .before in
-    let a = f .before .before .before .before in
-    split-answer-refused (a .pre .0) (a .pre .1) (f .faces-below .ensures) (t .before .if1 .left) (t .if2 .left) (d .split-at .ensures) (c .if3 .taken)
+    let done = c .before .before .before .before in
+    let room = done .before .before .before .before in
+    let f = tested room in
+    let (held, form) = start f .pre in
+    split-answer-refused held form (f .faces-below .ensures) (room .before .if1 .left) (room .if2 .left) (done .split-at .ensures) (c .if3 .taken)
 
 grown-requires : tie.Need-grown-requires
 grown-requires c κs =
-    let t = c .before .before .before .before .before .before .before .before in
-    let f = t .before .before in
-    let a = f .before .before .before .before in
-    (omega arith, room-below (a .pre .0) (a .pre .1) (f .faces-below .ensures) (t .before .if1 .left) (t .if2 .left))
+    let room = c .before .before .before .before .before .before .before .before in
+    let f = tested room in
+    let (held, form) = start f .pre in
+    (omega arith, room-below held form (f .faces-below .ensures) (room .before .if1 .left) (room .if2 .left))
 
 grown-requires-2 : tie.Need-grown-requires-2
 grown-requires-2 c κs =
-    let t = c .before .before .before .before .before .before .before .before .before in
-    let f = t .before .before in
-    let a = f .before .before .before .before in (
-      omega arith,
-      rw (c .grown .ensures)
-          (still-room (a .args .t1) _ (a .pre .1 .least) (room-here (a .pre .0) (a .pre .1) (f .faces-below .ensures) (t .before .if1 .left) (t .if2 .left))),
-    )
+    let room = c .before .before .before .before .before .before .before .before .before in
+    let f = tested room in
+    let (held, form) = start f .pre in
+    let free = room-here held form (f .faces-below .ensures) (room .before .if1 .left) (room .if2 .left) in
+    (omega arith, rw (c .grown .ensures) (still-room (start f .args .t1) _ (form .least) free))
 
 returns-4 : tie.Need-returns-4
 returns-4 c =
-    let e = c .before .before in
-    let d = e .before .before .before .before in
-    let t = d .before .before .before .before in
-    let f = t .before .before in
-    let a = f .before .before .before .before in
-    split-answer-accepted (a .pre .0) (a .pre .1) (f .faces-below .ensures) (t .before .if1 .left) (t .if2 .left) (d .split-at .ensures) (e .if3 .left)
-    (c .grown2 .ensures ∙ ap (λ x. grownAt x (a .args .dim)) (c .before .grown .ensures))
+    let accepted = c .before .before in
+    let done = accepted .before .before .before .before in
+    let room = done .before .before .before .before in
+    let f = tested room in
+    let (held, form) = start f .pre in
+    split-answer-accepted held form (f .faces-below .ensures) (room .before .if1 .left) (room .if2 .left) (done .split-at .ensures) (accepted .if3 .left)
+    (c .grown2 .ensures ∙ ap (λ x. grownAt x (start f .args .dim)) (c .before .grown .ensures))
 
 pub split-spec : {M : Type 1} → statement M
 split-spec =
