@@ -12,41 +12,51 @@ use Rattle.operators.proofs.append.append.Tie as tie
 abbrev entry : (c : tie.Start) → Pattern
 entry c = let a = c .args in asLent (a .t1) (a .m1) (a .m2) (a .m3)
 
+-- the start, seen from the arms of a seam, a panel and a block
+abbrev seam : tie.At-match-keys2 → tie.Start
+seam arm = arm .before .before .before .before
+
+abbrev panel : tie.At-match-keys3 → tie.Start
+panel arm = arm .before .before .before .before
+
+abbrev block : tie.At-match-rest → tie.Start
+block arm = arm .before .before .before .before
+
 -- the last dimension
-last : (c : tie.At-match-rest) → c .before .before .before .before .args .k ≡ 3
+last : (c : tie.At-match-rest) → block c .args .k ≡ 3
 last c = omega arith
 
 seam-requires : tie.Need-set-some-requires
-seam-requires c κs = seam-fits (c .before .before .before .before .before .pre) (c .before .match .keys2)
+seam-requires c κs = let arm = c .before in seam-fits (seam arm .pre) (arm .match .keys2)
 
 panel-requires : tie.Need-set-closed-requires
-panel-requires c κs = panel-fits (c .before .before .before .before .before .before .pre) (c .before .before .match .keys3)
+panel-requires c κs = let arm = c .before .before in panel-fits (panel arm .pre) (arm .match .keys3)
 
 block-requires : tie.Need-set-closed-requires-2
-block-requires c κs = block-fits (c .before .before .before .before .before .before .pre) (last (c .before .before))
+block-requires c κs = let arm = c .before .before in block-fits (block arm .pre) (last arm)
 
-corner : tie.Need-returns
-corner c =
-    let start = c .before .before .before .before in
-    append-0 (entry start) (start .pre .held) (start .args .column .now) (c .match .keys1)
+corner-appended : tie.Need-returns
+corner-appended c =
+    let s = c .before .before .before .before in
+    append-0 (entry s) (s .pre .held) (s .args .column .now) (c .match .keys1)
 
-seam : tie.Need-returns-2
-seam c =
+seam-appended : tie.Need-returns-2
+seam-appended c =
     let arm = c .before .before .before in
-    let start = arm .before .before .before .before in
-    append-1 (entry start) (start .pre .held) (start .args .column .now) (arm .match .keys2) (c .before .set-some .ensures)
+    let s = seam arm in
+    append-1 (entry s) (s .pre .held) (s .args .column .now) (arm .match .keys2) (c .before .set-some .ensures)
 
-panel : tie.Need-returns-3
-panel c =
+panel-appended : tie.Need-returns-3
+panel-appended c =
     let arm = c .before .before .before .before in
-    let start = arm .before .before .before .before in
-    append-2 (entry start) (start .pre .held) (start .args .column .now) (arm .match .keys3) (c .before .set-closed .ensures)
+    let s = panel arm in
+    append-2 (entry s) (s .pre .held) (s .args .column .now) (arm .match .keys3) (c .before .set-closed .ensures)
 
-block : tie.Need-returns-4
-block c =
+block-appended : tie.Need-returns-4
+block-appended c =
     let arm = c .before .before .before .before in
-    let start = arm .before .before .before .before in
-    append-3 (entry start) (start .pre .held) (start .args .column .now) (last arm) (c .before .set-closed2 .ensures)
+    let s = block arm in
+    append-3 (entry s) (s .pre .held) (s .args .column .now) (last arm) (c .before .set-closed2 .ensures)
 
 pub append-spec : {M : Type 1} → statement M
 append-spec =
@@ -61,12 +71,12 @@ append-spec =
     seam-requires
     panel-requires
     block-requires
-    corner
+    corner-appended
     (λ c. search needs)
-    seam
-    (λ c. search needs)
-    (λ c. search needs)
-    panel
+    seam-appended
     (λ c. search needs)
     (λ c. search needs)
-    block)
+    panel-appended
+    (λ c. search needs)
+    (λ c. search needs)
+    block-appended)

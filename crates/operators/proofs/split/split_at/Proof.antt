@@ -5,44 +5,50 @@ use Rattle.operators.proofs.split.SplitLaws.{seam-needs, panel-needs, b
 use Rattle.operators.proofs.split.split_at.Statement.{statement}
 use Rattle.operators.proofs.split.split_at.Tie as tie
 
+-- the start, seen from the arms of a seam, a panel and a block
+abbrev seam : tie.At-match-keys1 → tie.Start
+seam arm = arm .before .before .before .before
+
+abbrev panel : tie.At-match-keys2 → tie.Start
+panel arm = arm .before .before .before .before
+
+abbrev block : tie.At-match-rest → tie.Start
+block arm = arm .before .before .before .before
+
 divide-requires : tie.Need-divide-requires
 divide-requires c κs =
-    let m = c .before .before .before in
-    let P = m .before .before .before .before .pre in
-    (P .choice, seam-needs P (m .match .keys1))
+    let arm = c .before .before .before in
+    let P = seam arm .pre in
+    (P .choice, seam-needs P (arm .match .keys1))
 
 divide-requires-2 : tie.Need-divide-requires-2
 divide-requires-2 c κs =
-    let m = c .before .before .before in
-    let P = m .before .before .before .before .pre in
-    (P .choice, panel-needs P (m .match .keys2))
+    let arm = c .before .before .before in
+    let P = panel arm .pre in
+    (P .choice, panel-needs P (arm .match .keys2))
 
 divide-requires-3 : tie.Need-divide-requires-3
 divide-requires-3 c κs =
-    let m = c .before .before .before in
-    let P = m .before .before .before .before .pre in
+    let P = block (c .before .before .before) .pre in
     (P .choice, block-needs P (omega arith))
 
 returns : tie.Need-returns
 returns c =
-    let d = c .before .before .before in
-    let m = d .before .before .before .before in
-    let P = m .before .before .before .before .pre in
-    seam-split (P .held .sized) _ _ _ (m .match .keys1) (d .divide .ensures)
+    let call = c .before .before .before in
+    let arm = call .before .before .before .before in
+    seam-split (seam arm .pre .held .sized) _ _ _ (arm .match .keys1) (call .divide .ensures)
 
 returns-2 : tie.Need-returns-2
 returns-2 c =
-    let d = c .before .before .before in
-    let m = d .before .before .before .before in
-    let P = m .before .before .before .before .pre in
-    panel-split (P .held .sized) _ _ _ (m .match .keys2) (d .divide2 .ensures)
+    let call = c .before .before .before in
+    let arm = call .before .before .before .before in
+    panel-split (panel arm .pre .held .sized) _ _ _ (arm .match .keys2) (call .divide2 .ensures)
 
 returns-3 : tie.Need-returns-3
 returns-3 c =
-    let d = c .before .before .before in
-    let m = d .before .before .before .before in
-    let P = m .before .before .before .before .pre in
-    block-split (P .held .sized) _ _ _ (omega arith) (d .divide3 .ensures)
+    let call = c .before .before .before in
+    let arm = call .before .before .before .before in
+    block-split (block arm .pre .held .sized) _ _ _ (omega arith) (call .divide3 .ensures)
 
 pub split-at-spec : {M : Type 1} → statement M
 split-at-spec =
