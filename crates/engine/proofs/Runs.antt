@@ -59,33 +59,37 @@ module _ (s : List ℕ) (at : ℕ) (p : Pattern) (H : Held p) where
 
 -- the rest of the run, from where it stands, is the whole
 module _ (s : List ℕ) (n : ℕ) (p : Pattern) where
-  pub record OperatorsLeft (operatorLeft ran place : ℕ) (q : Pattern) : Type 0 where
+  pub record OperatorsLeft (n' place : ℕ) (q : Pattern) : Type 0 where
     pub held : Held q
-    pub count : ran + operatorLeft ≡ n
+    pub upto : n' ≤ n
     pub few : n ≤ 1024
-    pub rest : runFrom s operatorLeft (here (complex q) ran place) ≡ runFrom s n (here (complex p) 0 7)
+    pub rest : runFrom s n' (here (complex q) (n - n') place) ≡ runFrom s n (here (complex p) 0 7)
 
-  pub run-starts : Runnable n p → OperatorsLeft n 0 7 p
-  run-starts R = record { held = R .held; count = omega arith; few = R .few; rest = refl }
+  pub run-starts : Runnable n p → OperatorsLeft n 7 p
+  run-starts R = record { held = R .held; upto = omega arith; few = R .few; rest = ap (λ ran. runFrom s n (here (complex p) ran 7)) (omega arith) }
 
-  module _ {operatorLeft ran place : ℕ} {q : Pattern} (U : OperatorsLeft operatorLeft ran place q) where
-    module _ {next refusal : ℕ} {q' : Pattern} (T : OperatorRun s place q next refusal q') (h : 0 < operatorLeft) where
-      pub run-more : refusal ≡ accepted → OperatorsLeft (operatorLeft - 1) (ran + 1) next q'
+  module _ {n' place : ℕ} {q : Pattern} (U : OperatorsLeft n' place q) where
+    module _ {next refusal : ℕ} {q' : Pattern} (T : OperatorRun s place q next refusal q') (h : 0 < n') where
+      pub run-more : refusal ≡ accepted → OperatorsLeft (n' - 1) next q'
       unfolding runFrom
       run-more e = record {
         held = T .held;
-        count = omega (arith, U .count);
+        upto = omega (arith, U .upto);
         few = U .few;
-        rest = turns.turned (runOne s) _ (here (complex q) ran place) h (T .goes e ran) ∙ U .rest;
+        rest = ap (λ ran. runFrom s (n' - 1) (here (complex q') ran next)) (omega (arith, U .upto))
+            ∙ turns.turned (runOne s) _ (here (complex q) (n - n') place) h (T .goes e (n - n')) ∙ U .rest;
       }
 
-      pub run-stops : refusal ≢ accepted → RunTo s n p ran refusal q'
+      pub run-stops : refusal ≢ accepted → RunTo s n p (n - n') refusal q'
       unfolding runFrom
       run-stops e = record {
         held = T .held;
-        is = turns.stopped (runOne s) _ (here (complex q) ran place) h (T .ends e ran) ∙ U .rest;
+        is = turns.stopped (runOne s) _ (here (complex q) (n - n') place) h (T .ends e (n - n')) ∙ U .rest;
       }
 
-    pub run-ends : operatorLeft ≡ 0 → RunTo s n p ran accepted q
+    pub run-ends : n' ≡ 0 → RunTo s n p n accepted q
     unfolding runFrom
-    run-ends z = record { held = U .held; is = turns.repeat-ended (runOne s) _ (here (complex q) ran place) z refl ∙ U .rest }
+    run-ends z = record {
+      held = U .held;
+      is = ap (λ ran. ended (complex q) ran accepted) (omega (arith, z)) ∙ turns.repeat-ended (runOne s) _ (here (complex q) (n - n') place) z refl ∙ U .rest;
+    }

@@ -17,7 +17,7 @@ use rules::counts::Counts;
 use rules::operator::Operator;
 
 // The operator o, which was read from the bytes s.
-pub fn apply(
+pub(crate) fn apply(
     c: Counts,
     o: Operator,
     s: &[u8],

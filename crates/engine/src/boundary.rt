@@ -9,18 +9,22 @@ ghost use Rattle.rules.specs.Lending.{atEntry};
 ghost use Rattle.engine.specs.Boundaries.{product, matrixOf, Term, Terms, Factors};
 use crate::chains::is_chain;
 use good::refusal_of_pattern;
+use maths::SIDE;
 use rules::counts::Counts;
 use rules::refusals::ACCEPTED;
 use rules::refusals::WRONG_CHAIN;
 use rules::refusals::WRONG_FORM;
 use rules::refusals::WRONG_LENGTH;
 
+// How far from 0 a coefficient may be.
+const BOUNDARY_LIMIT: u32 = 1_000_000;
+
 // All 96 are set to 0.
 fn clear32(out: &mut [i32])
     requires { ⌜ length (now out) ≡ 96 ⌝ }
     ensures { λ r. ⌜ now (out .exit) ≡ table 96 (λ i. pos 0) ⌝ }
 {
-    for i in 0..96usize {
+    for i in 0..SIDE {
         out[i] = 0;
     }
 }
@@ -38,7 +42,7 @@ fn add_times32(sums: &mut [i32], m: &[i8], from: usize, v: i32)
     requires { ⌜ Terms (now sums) (now m) from v ⌝ }
     ensures { λ r. ⌜ now (sums .exit) ≡ plus (now (sums .entry)) (λ i. run (now (m .entry)) from i *ℤ v) ⌝ }
 {
-    for i in 0..96usize {
+    for i in 0..SIDE {
         sums[i] = mul_add32(sums[i], m[from + i], v);
     }
 }
@@ -49,9 +53,9 @@ fn multiply(m: &[i8], chain: &[i32], out: &mut [i32])
     ensures { λ r. ⌜ now (out .exit) ≡ product (now (m .entry)) (now (chain .entry)) 96 ⌝ }
 {
     clear32(out);
-    for j in 0..96usize {
+    for j in 0..SIDE {
         let v = chain[j];
-        add_times32(out, m, 96 * j, v);
+        add_times32(out, m, SIDE * j, v);
     }
 }
 
@@ -81,7 +85,7 @@ pub fn boundary(
 ) -> u8
     ensures { λ r. ⌜ record { refusal = r; out = now (out .exit) } ≡ boundaryCall (atEntry c m1 m2 m3) d (now (chain .entry)) (now (out .entry)) ⌝ }
 {
-    if !((chain.len() == 96) & (out.len() == 96)) {
+    if !((chain.len() == SIDE) & (out.len() == SIDE)) {
         return WRONG_LENGTH;
     }
     let refusal = refusal_of_pattern(c, m1, m2, m3);
@@ -92,7 +96,7 @@ pub fn boundary(
         return WRONG_FORM;
     }
     let n = c.n;
-    if !is_chain(1_000_000, n[d as usize], chain) {
+    if !is_chain(BOUNDARY_LIMIT, n[d as usize], chain) {
         return WRONG_CHAIN;
     }
     multiply_at(d, m1, m2, m3, chain, out);

@@ -19,6 +19,8 @@ use form::fields::refusal_of;
 use form::operators::form_of_operator;
 use good::refusal_of_pattern;
 use grid::changes::copy_all;
+use maths::SIDE;
+use maths::SIZE;
 use rules::counts::Counts;
 use rules::form::OperatorForm;
 use rules::operator::Operator;
@@ -28,15 +30,18 @@ use rules::refusals::WRONG_CHAIN;
 use rules::refusals::WRONG_FORM;
 use rules::refusals::WRONG_LENGTH;
 
+// How far from 0 a coefficient may be.
+const CARRY_LIMIT: u32 = 100_000_000;
+
 // The operator's own refusal, or 0: it is applied to a copy.
 fn refusal_of_trial(c: Counts, o: Operator, s: &[u8], m1: &[i8], m2: &[i8], m3: &[i8]) -> u8
     requires { ⌜ Held (asLent c m1 m2 m3) ⌝ }
     requires { ⌜ ReadFrom (now s) o ⌝ }
     ensures { λ r. ⌜ r ≡ numberOf (step o (facesOf (now (s .entry)) o) (complex (atEntry c m1 m2 m3))) ⌝ }
 {
-    let mut t1 = [0i8; 9216];
-    let mut t2 = [0i8; 9216];
-    let mut t3 = [0i8; 9216];
+    let mut t1 = [0i8; SIZE];
+    let mut t2 = [0i8; SIZE];
+    let mut t3 = [0i8; SIZE];
     copy_all(&mut t1, m1);
     copy_all(&mut t2, m2);
     copy_all(&mut t3, m3);
@@ -116,7 +121,7 @@ fn carry_through(
         return refusal;
     }
     let n = c.n;
-    if !is_chain(100_000_000, n[d as usize], chain) {
+    if !is_chain(CARRY_LIMIT, n[d as usize], chain) {
         return WRONG_CHAIN;
     }
     write_carried(o, n[d as usize], d, chain, out);
@@ -137,7 +142,7 @@ pub fn carry(
 ) -> u8
     ensures { λ r. ⌜ record { refusal = r; out = now (out .exit) } ≡ carryCall (atEntry c m1 m2 m3) (now (s .entry)) d (now (chain .entry)) (now (out .entry)) ⌝ }
 {
-    if !((chain.len() == 96) & (out.len() == 96)) {
+    if !((chain.len() == SIDE) & (out.len() == SIDE)) {
         return WRONG_LENGTH;
     }
     let refusal = refusal_of_pattern(c, m1, m2, m3);

@@ -7,6 +7,7 @@ ghost use lib.ListN.{length};
 ghost use Rattle.maths.specs.Tests.{isZero};
 ghost use Rattle.rules.specs.Chains.{isChain};
 ghost use Rattle.rules.specs.Calls.{coefficients};
+use maths::SIDE;
 
 // Whether z is 0.
 fn is_zero32(z: i32) -> bool
@@ -40,7 +41,7 @@ pub(crate) fn is_chain(limit: u32, n: u8, chain: &[i32]) -> bool
     requires { ⌜ length (now chain) ≡ 96 ⌝ }
     ensures { λ r. ⌜ r ≡ isChain limit n (coefficients (now (chain .entry))) ⌝ }
 {
-    for i in 0..96usize {
+    for i in 0..SIDE {
         if !is_coefficient(limit, i < n as usize, chain[i]) {
             return false;
         }

@@ -21,12 +21,15 @@ use rules::refusals::ACCEPTED;
 use rules::refusals::STALE;
 use rules::refusals::WRONG_LENGTH;
 
-pub mod apply;
+mod apply;
 pub mod boundary;
 pub mod carry;
 mod chains;
 pub mod euler;
 mod script;
+
+// How many bytes a script may have.
+const LONGEST_SCRIPT: usize = 24576;
 
 // One operator, of which s are the bytes, on a lent pattern.
 pub fn apply_operator(c: Counts, m1: &mut [i8], m2: &mut [i8], m3: &mut [i8], s: &[u8]) -> Applied
@@ -60,7 +63,7 @@ fn idle(c: Counts, refusal: u8) -> ScriptRun
 pub fn run_script(c: Counts, m1: &mut [i8], m2: &mut [i8], m3: &mut [i8], s: &[u8]) -> ScriptRun
     ensures { λ r. ⌜ left r m1 m2 m3 ≡ runCall (atEntry c m1 m2 m3) (now (s .entry)) ⌝ }
 {
-    if 24576 < s.len() {
+    if LONGEST_SCRIPT < s.len() {
         return idle(c, WRONG_LENGTH);
     }
     let tested = refusal_of_pattern(c, m1, m2, m3);

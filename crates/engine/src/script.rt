@@ -17,10 +17,10 @@ use rules::form::OperatorForm;
 use rules::refusals::ACCEPTED;
 
 // After one operator: the counts, the place after it, and its refusal.
-pub struct OneRun {
-    pub counts: Counts,
-    pub next: usize,
-    pub refusal: u8,
+struct OneRun {
+    counts: Counts,
+    next: usize,
+    refusal: u8,
 }
 
 // Whether the base counts of a script are c.
@@ -69,7 +69,6 @@ pub(crate) fn run_operators(
     let mut counts = c;
     let mut place: usize = 7;
     let mut left = n;
-    let mut ran: u16 = 0;
     while 0 < left {
         let one = run_one(counts, s, place, m1, m2, m3);
         let next = one.counts;
@@ -77,17 +76,16 @@ pub(crate) fn run_operators(
         if one.refusal != ACCEPTED {
             return ScriptRun {
                 counts,
-                ran,
+                ran: (n - left) as u16,
                 refusal: one.refusal,
             };
         }
         place = one.next;
-        ran += 1;
         left -= 1;
     }
     ScriptRun {
         counts,
-        ran,
+        ran: n as u16,
         refusal: ACCEPTED,
     }
 }

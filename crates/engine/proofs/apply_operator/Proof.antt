@@ -15,8 +15,11 @@ use Rattle.engine.proofs.apply_operator.Tie as tie
 abbrev entry : tie.Start → Pattern
 entry start = let a = start .args in asLent (a .c) (a .m1) (a .m2) (a .m3)
 
+abbrev start : tie.Else1 → tie.Start
+start good = good .before .before .before .before .before .before
+
 -- it passed its test
-passed : (c : tie.Else1) → tested (entry (c .before .before .before .before .before .before)) ≡ accepted
+passed : (c : tie.Else1) → tested (entry (start c)) ≡ accepted
 passed c = sym (c .before .refusal-of-pattern .ensures) ∙ c .if1 .left
 
 not-good : tie.Need-returns
@@ -26,9 +29,9 @@ apply-requires : tie.Need-apply-requires
 apply-requires c κs =
     let arm = c .before .before .before .before in
     let call = arm .before .before in
-    let start = call .before .before .before .before .before .before .before in
-    let four : length (start .args .c .n) ≡ 4 = search needs in
-    (held (entry start) four (passed (call .before)), lone-read (sym (call .form-of-operator .ensures) ∙ arm .o .given .1))
+    let s = start (call .before) in
+    let four : length (s .args .c .n) ≡ 4 = search needs in
+    (held (entry s) four (passed (call .before)), lone-read (sym (call .form-of-operator .ensures) ∙ arm .o .given .1))
 
 not-in-form : tie.Need-returns-2
 not-in-form c =

@@ -8,67 +8,72 @@ use Rattle.engine.proofs.apply.apply.Tie as tie
 make-requires : tie.Need-make-requires
 make-requires c κs =
     let arm = c .before .before .before .before in
-    let start = arm .before .before .before in
-    let S = rw (arm .o .given .1) at (shaped (start .pre .1)) in
-    (start .pre .0, S)
+    let (held, source) = arm .before .before .before .pre in
+    let form = rw (arm .o .given .1) at (shaped source) in
+    (held, form)
 
 kill-requires : tie.Need-kill-requires
 kill-requires c κs =
     let arm = c .before .before .before .before in
-    let start = arm .before .before .before in
-    let S = rw (arm .o2 .given .1) at (shaped (start .pre .1)) in
-    (S, start .pre .0)
+    let (held, source) = arm .before .before .before .pre in
+    let form = rw (arm .o2 .given .1) at (shaped source) in
+    (form, held)
 
 split-requires : tie.Need-split-requires
 split-requires c κs =
     let arm = c .before .before .before .before in
-    let start = arm .before .before .before in
-    let S = rw (arm .o3 .given .1) at (shaped (start .pre .1)) in
-    (start .pre .0, S)
+    let (held, source) = arm .before .before .before .pre in
+    let form = rw (arm .o3 .given .1) at (shaped source) in
+    (held, form)
 
 merge-requires : tie.Need-merge-requires
 merge-requires c κs =
     let arm = c .before .before .before .before in
-    let start = arm .before .before .before in
-    let S = rw (arm .o4 .given .1) at (shaped (start .pre .1)) in
-    (S, start .pre .0)
+    let (held, source) = arm .before .before .before .pre in
+    let form = rw (arm .o4 .given .1) at (shaped source) in
+    (form, held)
 
 flip-requires : tie.Need-flip-requires
 flip-requires c κs =
     let arm = c .before .before .before .before in
-    let start = arm .before .before .before in
-    let S = rw (arm .o5 .given .1) at (shaped (start .pre .1)) in
-    (S, start .pre .0)
+    let (held, source) = arm .before .before .before .pre in
+    let form = rw (arm .o5 .given .1) at (shaped source) in
+    (form, held)
 
 make-returns : tie.Need-returns
 unfolding step
 make-returns c =
     let call = c .before .before .before in
-    rw (call .before .before .before .before .before .o .given .1) (call .make .ensures)
+    let arm = call .before .before .before .before .before in
+    rw (arm .o .given .1) (call .make .ensures)
 
 kill-returns : tie.Need-returns-2
 unfolding step
 kill-returns c =
     let call = c .before .before .before in
-    rw (call .before .before .before .before .before .o2 .given .1) (call .kill .ensures)
+    let arm = call .before .before .before .before .before in
+    rw (arm .o2 .given .1) (call .kill .ensures)
 
 split-returns : tie.Need-returns-3
 unfolding step
 split-returns c =
     let call = c .before .before .before in
-    rw (call .before .before .before .before .before .o3 .given .1) (call .split .ensures)
+    let arm = call .before .before .before .before .before in
+    rw (arm .o3 .given .1) (call .split .ensures)
 
 merge-returns : tie.Need-returns-4
 unfolding step
 merge-returns c =
     let call = c .before .before .before in
-    rw (call .before .before .before .before .before .o4 .given .1) (call .merge .ensures)
+    let arm = call .before .before .before .before .before in
+    rw (arm .o4 .given .1) (call .merge .ensures)
 
 flip-returns : tie.Need-returns-5
 unfolding step
 flip-returns c =
     let call = c .before .before .before in
-    rw (call .before .before .before .before .before .o5 .given .1) (call .flip .ensures)
+    let arm = call .before .before .before .before .before in
+    rw (arm .o5 .given .1) (call .flip .ensures)
 
 pub apply-spec : {M : Type 1} → statement M
 apply-spec =

@@ -25,6 +25,13 @@ entry s = let a = s .args in asLent (a .c) (a .m1) (a .m2) (a .m3)
 four : (s : tie.Start) → length (s .args .c .n) ≡ 4
 four s = search needs
 
+-- the moments: the chains are 96 long, the dimension is one that is offered
+abbrev long : tie.Else3 → tie.Else1
+long ranged = ranged .before .before .before
+
+abbrev start : tie.Else3 → tie.Start
+start ranged = long ranged .before
+
 -- the chains are 96 long
 sized : (c : tie.Else1) → sizedChain (c .before .args .chain .now) && sizedChain (c .before .args .out .now) ≡ true
 sized c = not-false _ (c .if1 .left)
@@ -34,10 +41,10 @@ passed : (c : tie.Else2) → tested (entry (c .before .before .before)) ≡ acce
 passed c = sym (c .before .refusal-of-pattern .ensures) ∙ c .if2 .left
 
 -- the dimension is 1, 2 or 3
-ranged : (c : tie.Else3) → within 1 3 (c .before .before .before .before .args .d) ≡ true
+ranged : (c : tie.Else3) → within 1 3 (start c .args .d) ≡ true
 ranged c = not-false _ (c .if3 .left)
 
-most : (c : tie.Else3) → c .before .before .before .before .args .d ≤ 3
+most : (c : tie.Else3) → start c .args .d ≤ 3
 most c = at-most-three _ (ranged c)
 
 returns : tie.Need-returns
@@ -56,33 +63,30 @@ array-read-is-chain c = omega (arith, most (c .before))
 
 is-chain-requires : tie.Need-is-chain-requires
 is-chain-requires c κs =
-    let long = c .before .before .before .before in
-    let s = long .before in
-    chain-long (entry s) (s .args .chain .now) (s .args .out .now) (sized long)
+    let test = c .before in
+    let s = start test in
+    chain-long (entry s) (s .args .chain .now) (s .args .out .now) (sized (long test))
 
 returns-4 : tie.Need-returns-4
 returns-4 c =
     let test = c .before .before .before in
-    let long = test .before .before .before in
-    let s = long .before in
-    boundary-chain (entry s) (s .args .d) (s .args .chain .now) (s .args .out .now) (sized long) (passed (test .before)) (ranged test)
+    let s = start test in
+    boundary-chain (entry s) (s .args .d) (s .args .chain .now) (s .args .out .now) (sized (long test)) (passed (test .before)) (ranged test)
     (sym (c .before .is-chain .ensures) ∙ not-true _ (c .if4 .taken))
 
 multiply-at-requires : tie.Need-multiply-at-requires
 multiply-at-requires c κs =
     let test = c .before .before .before .before in
-    let long = test .before .before .before in
-    let s = long .before in
-    factors (entry s) (s .args .d) (s .args .chain .now) (s .args .out .now) (sized long) (passed (test .before)) (ranged test)
+    let s = start test in
+    factors (entry s) (s .args .d) (s .args .chain .now) (s .args .out .now) (sized (long test)) (passed (test .before)) (ranged test)
     (sym (c .before .before .is-chain .ensures) ∙ not-false _ (c .before .if4 .left)) (four s)
 
 returns-5 : tie.Need-returns-5
 returns-5 c =
     let chain = c .before .before .before in
     let test = chain .before .before .before in
-    let long = test .before .before .before in
-    let s = long .before in
-    boundary-done (entry s) (s .args .d) (s .args .chain .now) (s .args .out .now) (sized long) (passed (test .before)) (ranged test)
+    let s = start test in
+    boundary-done (entry s) (s .args .d) (s .args .chain .now) (s .args .out .now) (sized (long test)) (passed (test .before)) (ranged test)
     (sym (chain .before .is-chain .ensures) ∙ not-false _ (chain .if4 .left)) (c .before .multiply-at .ensures)
 
 pub boundary-spec : {M : Type 1} → statement M

@@ -30,6 +30,10 @@ sized c = not-false _ (c .if1 .left)
 passed : (c : tie.Else2) → tested (entry (c .before .before .before .before)) ≡ accepted
 passed c = sym (c .before .refusal-of-pattern .ensures) ∙ c .if2 .left
 
+-- the moment of the chains' test, seen from that of the dimension's
+abbrev long : tie.Else3 → tie.Else1
+long offered = offered .before .before .before
+
 too-short : tie.Need-returns
 too-short c = carry-short _ _ _ _ _ (not-true _ (c .if1 .taken))
 
@@ -47,14 +51,13 @@ carry-through-requires c κs =
     let arm = c .before .before in
     let form = arm .before .before in
     let test = form .before in
-    let long = test .before .before .before in
-    let s = long .before .before in
+    let s = long test .before .before in
     record {
       held = held (entry s) (four s) (passed (test .before));
       source = lone-read (sym (form .form-of-operator .ensures) ∙ arm .o .given .1);
       dim = test .if3 .left;
-      long = chain-long (entry s) (s .args .chain .now) (s .args .out .now) (sized long);
-      room = out-long (entry s) (s .args .chain .now) (s .args .out .now) (sized long);
+      long = chain-long (entry s) (s .args .chain .now) (s .args .out .now) (sized (long test));
+      room = out-long (entry s) (s .args .chain .now) (s .args .out .now) (sized (long test));
     }
 
 not-in-form : tie.Need-returns-4
@@ -62,9 +65,8 @@ not-in-form c =
     let arm = c .before .before in
     let form = arm .before .before in
     let test = form .before in
-    let long = test .before .before .before in
-    let s = long .before .before in
-    carry-faulty (entry s) _ (s .args .d) _ _ (sized long) (passed (test .before)) (test .if3 .left)
+    let s = long test .before .before in
+    carry-faulty (entry s) _ (s .args .d) _ _ (sized (long test)) (passed (test .before)) (test .if3 .left)
     (sym (form .form-of-operator .ensures) ∙ arm .f .given .1) (c .refusal-of .ensures)
 
 done : tie.Need-returns-5
@@ -72,9 +74,8 @@ done c =
     let arm = c .before .before .before .before in
     let form = arm .before .before in
     let test = form .before in
-    let long = test .before .before .before in
-    let s = long .before .before in
-    carry-done (entry s) _ (s .args .d) _ _ (sized long) (passed (test .before)) (test .if3 .left)
+    let s = long test .before .before in
+    carry-done (entry s) _ (s .args .d) _ _ (sized (long test)) (passed (test .before)) (test .if3 .left)
     (sym (form .form-of-operator .ensures) ∙ arm .o .given .1) (c .before .carry-through .ensures)
 
 pub carry-spec : {M : Type 1} → statement M

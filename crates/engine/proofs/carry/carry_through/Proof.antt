@@ -11,33 +11,37 @@ use Rattle.engine.proofs.CarryAnswers.{through-refused, through-chain, 
 use Rattle.engine.proofs.carry.carry_through.Statement.{statement}
 use Rattle.engine.proofs.carry.carry_through.Tie as tie
 
+-- the moments: the start, the operator tried and not refused
+abbrev start : tie.Else1 → tie.Start
+start tried = tried .before .before .before
+
+abbrev tried : tie.Else2 → tie.Else1
+tried test = test .before .before .before
+
 refused : tie.Need-returns
 refused c = through-refused (c .before .before .before .pre) (c .before .refusal-of-carrying .ensures) (c .if1 .taken)
 
 wrong-chain : tie.Need-returns-2
 wrong-chain c =
-    let tried = c .before .before .before in
-    let start = tried .before .before .before in
-    through-chain (start .pre) (tried .before .refusal-of-carrying .ensures) (tried .if1 .left)
+    let t = c .before .before .before in
+    through-chain (start t .pre) (t .before .refusal-of-carrying .ensures) (t .if1 .left)
     (sym (c .before .is-chain .ensures) ∙ not-true _ (c .if2 .taken))
 
 -- the chain passed its test
-passed : (c : tie.Else2) → let a = c .before .before .before .before .before .before .args in
+passed : (c : tie.Else2) → let a = start (tried c) .args in
     isChain carryLimit (countOf (a .c) (a .d)) (coefficients (a .chain .now)) ≡ true
 passed c = sym (c .before .is-chain .ensures) ∙ not-false _ (c .if2 .left)
 
 write-carried-requires : tie.Need-write-carried-requires
 write-carried-requires c κs =
-    let tried = c .before .before .before .before in
-    let start = tried .before .before .before in
-    rewritable (start .pre) (tried .before .refusal-of-carrying .ensures) (tried .if1 .left) (passed (c .before))
+    let t = tried (c .before) in
+    rewritable (start t .pre) (t .before .refusal-of-carrying .ensures) (t .if1 .left) (passed (c .before))
 
 done : tie.Need-returns-3
 done c =
     let test = c .before .before .before in
-    let tried = test .before .before .before in
-    let start = tried .before .before .before in
-    through-done (start .pre) (tried .before .refusal-of-carrying .ensures) (tried .if1 .left) (passed test) (c .before .write-carried .ensures)
+    let t = tried test in
+    through-done (start t .pre) (t .before .refusal-of-carrying .ensures) (t .if1 .left) (passed test) (c .before .write-carried .ensures)
 
 pub carry-through-spec : {M : Type 1} → statement M
 carry-through-spec =

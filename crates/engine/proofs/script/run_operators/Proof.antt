@@ -8,64 +8,70 @@ use Rattle.engine.proofs.script.run_operators.Statement.{statement}
 use Rattle.engine.proofs.script.run_operators.Tie as tie
 
 abbrev Inv-loop : tie.InvT-loop
-Inv-loop n s m1₀ m2₀ m3₀ counts₀ place₀ left₀ ran₀ m1 m2 m3 counts place left ran =
-    OperatorsLeft s n (pattern counts₀ m1₀ m2₀ m3₀) left ran place (pattern counts m1 m2 m3)
+Inv-loop n s m1₀ m2₀ m3₀ counts₀ place₀ left₀ m1 m2 m3 counts place left =
+    OperatorsLeft s n (pattern counts₀ m1₀ m2₀ m3₀) left place (pattern counts m1 m2 m3)
 
 abbrev μ-loop : tie.MeasureT-loop
-μ-loop n s m1₀ m2₀ m3₀ counts₀ place₀ left₀ ran₀ m1 m2 m3 counts place left ran = left
+μ-loop n s m1₀ m2₀ m3₀ counts₀ place₀ left₀ m1 m2 m3 counts place left = left
 
 -- the pattern at entry
 abbrev entry : (c : tie.Start Inv-loop μ-loop) → Pattern
 entry c = let a = c .args in asLent (a .c) (a .m1) (a .m2) (a .m3)
 
+-- the moments: the start, a turn of the loop with an operator left, the operator run and refused or accepted
+abbrev start : tie.At-loop Inv-loop μ-loop → tie.Start Inv-loop μ-loop
+start turn = turn .before .before
+
+abbrev some-left : tie.After-run-one Inv-loop μ-loop → tie.In-loop Inv-loop μ-loop
+some-left call = call .before .before .before .before
+
+abbrev turn : tie.After-run-one Inv-loop μ-loop → tie.At-loop Inv-loop μ-loop
+turn call = some-left call .before
+
+abbrev refused : tie.Then1 Inv-loop μ-loop → tie.After-run-one Inv-loop μ-loop
+refused c = c .before .before .before .before .before .before
+
+abbrev accepted : tie.Else1 Inv-loop μ-loop → tie.After-run-one Inv-loop μ-loop
+accepted c = c .before .before .before .before .before .before
+
 loop-holds : tie.Need-loop-holds Inv-loop μ-loop
-loop-holds c = let start = c .before in run-starts (start .args .s .now) (start .args .n) (entry start) (start .pre)
+loop-holds c = let s = c .before in run-starts (s .args .s .now) (s .args .n) (entry s) (s .pre)
 
 run-one-requires : tie.Need-run-one-requires Inv-loop μ-loop
 run-one-requires c κs = c .before .before .before .before .loop .inv .held
 
 -- every pattern on the way is as long as the one at entry
-at-entry : (c : tie.At-loop Inv-loop μ-loop) → Sized (entry (c .before .before))
-at-entry c = c .before .before .pre .held .sized
+at-entry : (c : tie.At-loop Inv-loop μ-loop) → Sized (entry (start c))
+at-entry c = start c .pre .held .sized
 
 same-length : tie.Need-same-length Inv-loop μ-loop
 same-length c =
-    let call = c .before .before .before .before .before .before in
-    call .run-one .ensures .held .sized .size1 ∙ sym (at-entry (call .before .before .before .before .before) .size1)
+    let call = refused c in
+    call .run-one .ensures .held .sized .size1 ∙ sym (at-entry (turn call) .size1)
 
 same-length-2 : tie.Need-same-length-2 Inv-loop μ-loop
 same-length-2 c =
-    let call = c .before .before .before .before .before .before in
-    call .run-one .ensures .held .sized .size2 ∙ sym (at-entry (call .before .before .before .before .before) .size2)
+    let call = refused c in
+    call .run-one .ensures .held .sized .size2 ∙ sym (at-entry (turn call) .size2)
 
 same-length-3 : tie.Need-same-length-3 Inv-loop μ-loop
 same-length-3 c =
-    let call = c .before .before .before .before .before .before in
-    call .run-one .ensures .held .sized .size3 ∙ sym (at-entry (call .before .before .before .before .before) .size3)
+    let call = refused c in
+    call .run-one .ensures .held .sized .size3 ∙ sym (at-entry (turn call) .size3)
 
 stopped : tie.Need-returns Inv-loop μ-loop
 stopped c =
-    let call = c .before .before .before .before .before .before in
-    let loop = call .before .before .before .before .before in
-    let start = loop .before .before in
-    let a = start .args in
-    run-stops (a .s .now) (a .n) (entry start) (loop .loop .inv) (call .run-one .ensures)
-    (call .before .before .before .before .loop-test .taken) (c .if1 .taken)
-
-ran-fits : tie.Need-add-ran Inv-loop μ-loop
-ran-fits c =
-    let call = c .before .before .before .before .before .before in
-    let U = call .before .before .before .before .before .loop .inv in
-    omega (arith, U .count, U .few)
+    let call = refused c in
+    let t = turn call in
+    let a = start t .args in
+    run-stops (a .s .now) (a .n) (entry (start t)) (t .loop .inv) (call .run-one .ensures) (some-left call .loop-test .taken) (c .if1 .taken)
 
 loop-again : tie.Need-loop-again Inv-loop μ-loop
 loop-again c =
-    let call = c .before .before .before .before .before .before in
-    let loop = call .before .before .before .before .before in
-    let start = loop .before .before in
-    let a = start .args in
-    run-more (a .s .now) (a .n) (entry start) (loop .loop .inv) (call .run-one .ensures)
-    (call .before .before .before .before .loop-test .taken) (c .if1 .left)
+    let call = accepted c in
+    let t = turn call in
+    let a = start t .args in
+    run-more (a .s .now) (a .n) (entry (start t)) (t .loop .inv) (call .run-one .ensures) (some-left call .loop-test .taken) (c .if1 .left)
 
 same-length-4 : tie.Need-same-length-4 Inv-loop μ-loop
 same-length-4 c = c .before .loop .inv .held .sized .size1 ∙ sym (at-entry (c .before) .size1)
@@ -78,9 +84,8 @@ same-length-6 c = c .before .loop .inv .held .sized .size3 ∙ sym (at-entry (c 
 
 all-run : tie.Need-returns-2 Inv-loop μ-loop
 all-run c =
-    let start = c .before .before .before in
-    let a = start .args in
-    run-ends (a .s .now) (a .n) (entry start) (c .before .loop .inv) (omega arith)
+    let s = start (c .before) in
+    run-ends (s .args .s .now) (s .args .n) (entry s) (c .before .loop .inv) (omega arith)
 
 pub run-operators-spec : {M : Type 1} → statement M
 run-operators-spec =
@@ -90,14 +95,16 @@ run-operators-spec =
     μ-loop
     loop-holds
     run-one-requires
+    (λ c. turn (refused c) .loop .inv .upto)
+    (λ c. omega (arith, turn (refused c) .loop .inv .few))
     same-length
     same-length-2
     same-length-3
     stopped
-    ran-fits
     (λ c. omega arith)
     (λ c. omega arith)
     loop-again
+    (λ c. omega (arith, c .before .loop .inv .few))
     same-length-4
     same-length-5
     same-length-6

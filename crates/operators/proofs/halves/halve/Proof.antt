@@ -6,10 +6,10 @@ use Rattle.operators.proofs.halves.halve.Tie as tie
 
 returns : tie.Need-returns
 returns c =
-    let c₃ = c .before .before .before .before in
-    let c₂ = c₃ .before .before .before in
-    let c₁ = c₂ .before .before .before in
-    halved (c₁ .before .before .pre) (c₁ .leave-rest .ensures) (c₂ .set-entry .ensures) (c₃ .set-column .ensures) (c .before .set-entry2 .ensures)
+    let new = c .before .before .before .before in
+    let kept = new .before .before .before in
+    let rest = kept .before .before .before in
+    halved (rest .before .before .pre) (rest .leave-rest .ensures) (kept .set-entry .ensures) (new .set-column .ensures) (c .before .set-entry2 .ensures)
 
 pub halve-spec : {M : Type 1} → statement M
 halve-spec =
