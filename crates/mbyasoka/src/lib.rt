@@ -4,6 +4,7 @@ ghost use Rattle.rules.specs.Complex.{countsOf, empty};
 ghost use Rattle.rules.specs.Calls.{readCall, writeCall, eulerCall, applyCall, runCall, boundaryCall, carryCall};
 ghost use Rattle.rules.specs.Lending.{atEntry, left};
 ghost use Rattle.good.specs.Tested.{tested};
+ghost use Rattle.mbyasoka.specs.Places.{patternLent, countsLeft};
 use engine::apply_operator;
 use engine::boundary::boundary;
 use engine::carry::carry;
@@ -17,7 +18,7 @@ use rules::counts::Counts;
 // Whether the pattern is good: 0, or the refusal 1 or 2.
 #[no_mangle]
 pub extern "C" fn mbyasoka_check(counts: &[u8; 4], m1: &[i8], m2: &[i8], m3: &[i8]) -> u8
-    ensures { λ r. ⌜ r ≡ tested (atEntry (record { n = now (counts .entry) }) m1 m2 m3) ⌝ }
+    ensures { λ r. ⌜ r ≡ tested (patternLent counts m1 m2 m3) ⌝ }
 {
     let c = Counts { n: *counts };
     refusal_of_pattern(c, m1, m2, m3)
@@ -33,7 +34,7 @@ pub extern "C" fn mbyasoka_read_mesh(
     s: &[u8],
     used: &mut usize,
 ) -> u8
-    ensures { λ r. ⌜ left (record { counts = record { n = now (counts .exit) }; used = now (used .exit); refusal = r }) m1 m2 m3 ≡ readCall (now (s .entry)) (atEntry (countsOf empty) m1 m2 m3) ⌝ }
+    ensures { λ r. ⌜ left (record { counts = countsLeft counts; used = now (used .exit); refusal = r }) m1 m2 m3 ≡ readCall (now (s .entry)) (atEntry (countsOf empty) m1 m2 m3) ⌝ }
 {
     let answer = read_mesh(s, m1, m2, m3);
     let c = answer.counts;
@@ -53,7 +54,7 @@ pub extern "C" fn mbyasoka_write_mesh(
     out: &mut [u8],
     written: &mut usize,
 ) -> u8
-    ensures { λ r. ⌜ record { answer = record { written = now (written .exit); refusal = r }; out = now (out .exit) } ≡ writeCall (atEntry (record { n = now (counts .entry) }) m1 m2 m3) (now (out .entry)) ⌝ }
+    ensures { λ r. ⌜ record { answer = record { written = now (written .exit); refusal = r }; out = now (out .exit) } ≡ writeCall (patternLent counts m1 m2 m3) (now (out .entry)) ⌝ }
 {
     let c = Counts { n: *counts };
     let answer = write_mesh(c, m1, m2, m3, out);
@@ -70,7 +71,7 @@ pub extern "C" fn mbyasoka_euler(
     m3: &[i8],
     number: &mut i16,
 ) -> u8
-    ensures { λ r. ⌜ record { number = now (number .exit); refusal = r } ≡ eulerCall (atEntry (record { n = now (counts .entry) }) m1 m2 m3) ⌝ }
+    ensures { λ r. ⌜ record { number = now (number .exit); refusal = r } ≡ eulerCall (patternLent counts m1 m2 m3) ⌝ }
 {
     let c = Counts { n: *counts };
     let answer = euler(c, m1, m2, m3);
@@ -88,7 +89,7 @@ pub extern "C" fn mbyasoka_apply_operator(
     m3: &mut [i8],
     s: &[u8],
 ) -> u8
-    ensures { λ r. ⌜ left (record { counts = record { n = now (counts .exit) }; refusal = r }) m1 m2 m3 ≡ applyCall (atEntry (record { n = now (counts .entry) }) m1 m2 m3) (now (s .entry)) ⌝ }
+    ensures { λ r. ⌜ left (record { counts = countsLeft counts; refusal = r }) m1 m2 m3 ≡ applyCall (patternLent counts m1 m2 m3) (now (s .entry)) ⌝ }
 {
     let c = Counts { n: *counts };
     let answer = apply_operator(c, m1, m2, m3, s);
@@ -108,7 +109,7 @@ pub extern "C" fn mbyasoka_run_script(
     s: &[u8],
     ran: &mut u16,
 ) -> u8
-    ensures { λ r. ⌜ left (record { counts = record { n = now (counts .exit) }; ran = now (ran .exit); refusal = r }) m1 m2 m3 ≡ runCall (atEntry (record { n = now (counts .entry) }) m1 m2 m3) (now (s .entry)) ⌝ }
+    ensures { λ r. ⌜ left (record { counts = countsLeft counts; ran = now (ran .exit); refusal = r }) m1 m2 m3 ≡ runCall (patternLent counts m1 m2 m3) (now (s .entry)) ⌝ }
 {
     let c = Counts { n: *counts };
     let answer = run_script(c, m1, m2, m3, s);
@@ -130,7 +131,7 @@ pub extern "C" fn mbyasoka_boundary(
     chain: &[i32],
     out: &mut [i32],
 ) -> u8
-    ensures { λ r. ⌜ record { refusal = r; out = now (out .exit) } ≡ boundaryCall (atEntry (record { n = now (counts .entry) }) m1 m2 m3) d (now (chain .entry)) (now (out .entry)) ⌝ }
+    ensures { λ r. ⌜ record { refusal = r; out = now (out .exit) } ≡ boundaryCall (patternLent counts m1 m2 m3) d (now (chain .entry)) (now (out .entry)) ⌝ }
 {
     let c = Counts { n: *counts };
     boundary(c, m1, m2, m3, d, chain, out)
@@ -148,7 +149,7 @@ pub extern "C" fn mbyasoka_carry(
     chain: &[i32],
     out: &mut [i32],
 ) -> u8
-    ensures { λ r. ⌜ record { refusal = r; out = now (out .exit) } ≡ carryCall (atEntry (record { n = now (counts .entry) }) m1 m2 m3) (now (s .entry)) d (now (chain .entry)) (now (out .entry)) ⌝ }
+    ensures { λ r. ⌜ record { refusal = r; out = now (out .exit) } ≡ carryCall (patternLent counts m1 m2 m3) (now (s .entry)) d (now (chain .entry)) (now (out .entry)) ⌝ }
 {
     let c = Counts { n: *counts };
     carry(c, m1, m2, m3, s, d, chain, out)
