@@ -6,20 +6,23 @@ ghost use Rattle.rules.specs.Complex.{Sized, countsOf, empty};
 ghost use Rattle.rules.specs.Lending.{asLent};
 use maths::SIZE;
 use printing::print;
+use printing::read_failed;
 
 // A length in three bytes.
 fn length_of(low: u8, middle: u8, high: u8) -> usize {
     low as usize + 256 * middle as usize + 65536 * high as usize
 }
 
-// One input, and whether there was one.
+// One input, and whether there was one and it was printed.
 fn print_next(input: &mut [u8], m1: &mut [i8], m2: &mut [i8], m3: &mut [i8], out: &mut [u8]) -> bool
     requires { ⌜ 65536 ≤ length (now input) ⌝ }
     requires { ⌜ Sized (asLent (countsOf empty) m1 m2 m3) ⌝ }
     requires { ⌜ 38400 ≤ length (now out) ⌝ }
 {
     let mut head = [0u8; 3];
-    if io::read_full(0, &mut head) != 3 {
+    let got = io::read_full(0, &mut head);
+    if got != 3 {
+        read_failed(&mut head[got..]);
         return false;
     }
     let size = length_of(head[0], head[1], head[2]);
@@ -27,8 +30,10 @@ fn print_next(input: &mut [u8], m1: &mut [i8], m2: &mut [i8], m3: &mut [i8], out
         return false;
     }
     let n = io::read_full(0, &mut input[..size]);
-    print(&input[..n], m1, m2, m3, out);
-    true
+    if read_failed(&mut input[n..size]) {
+        return false;
+    }
+    print(&input[..n], m1, m2, m3, out)
 }
 
 fn main() {

@@ -18,7 +18,8 @@ use Rattle.rules.proofs.branches.FirstTests.{both-passed}
 use Rattle.rules.proofs.calls.Limits.{chain-limit}
 use Rattle.good.specs.Tested.{tested}
 use Rattle.engine.specs.Boundaries.{product, matrixOf, Factors}
-use Rattle.engine.proofs.FirstTests.{held, refusedBy, chains-short, chain-long, out-long, chains-refused, chains-sized}
+use Rattle.good.proofs.Passing.{held}
+use Rattle.engine.proofs.FirstTests.{refusedBy, chains-short, chain-long, out-long, chains-refused, chains-sized}
 use Rattle.rules.proofs.storage.Stored.{count-is}
 use Rattle.engine.proofs.Dimensions.{at-most-three, each-dimension}
 

@@ -1,37 +1,25 @@
 -- What becomes of a chain that is 0 past the count: a new cell that gets 0 has it already.
 use mathlib.Core.Path.{_≡_, refl}
-use mathlib.Core.Bool.{Bool, true, cond}
+use mathlib.Core.Bool.{Bool, cond}
 use mathlib.Core.List.{List}
 use Prim.Native.Nat.{ℕ, zero, suc, _<_}
 use native.Mathlib.Omega.{arith}
-use lib.Dec.{eqb, ltb, leb}
-use lib.IntN.{ℤ, pos, natAbs}
-use lib.ListN.{length, List·getD-eq-default}
-use borrow.Author.Tests.{ne-eqb, le-ltb}
-use Rattle.maths.specs.Tests.{isZero}
-use Rattle.maths.proofs.Cases.{lt-or, eqb-same}
-use Rattle.maths.proofs.Tests.{zero-true, all-at}
+use lib.Dec.{eqb}
+use borrow.Author.Tests.{ne-eqb}
+use Rattle.maths.proofs.Cases.{eqb-same}
 use Rattle.rules.specs.declared.operator.Operator.{Operator}
 use Rattle.rules.specs.declared.operator.Operator.the-variants.{Make, Kill, Split, Merge, Flip}
 use Rattle.rules.specs.Refusals.{notCarried}
 use Rattle.rules.specs.Complex.{Complex, Chain}
 use Rattle.rules.specs.Edits.{Step, kept, put, make, split, negated, flip}
 use Rattle.rules.specs.Operators.{Faces, edited, chainOf, chosen, step}
-use Rattle.rules.specs.Chains.{isChain, carryStep}
-use Rattle.rules.specs.Calls.{coefficients}
+use Rattle.rules.specs.Chains.{carryStep}
 use Rattle.rules.proofs.branches.Branches.{refused-edited}
 use Rattle.rules.proofs.bytes.Decoded.{Formed}
 use Rattle.rules.proofs.layers.Frame.{Within}
 use Rattle.rules.proofs.layers.Changes.{at3-each, put-zero}
 use Rattle.rules.proofs.accepting.Passed.{make-tests, split-tests, flip-tests}
 use Rattle.engine.specs.Carrying.{rewritten}
-
--- a chain that a call takes is 0 past the count
-pub chain-within : (limit n : ℕ) (c : List ℤ) → length c ≡ 96 → isChain limit n (coefficients c) ≡ true → Within n (coefficients c)
-unfolding isChain
-chain-within limit n c l e i h = lt-or i 96
-    (λ below. zero-true (rw (le-ltb i n h) at (all-at 96 (λ i. cond (ltb i n) (leb (natAbs (coefficients c i)) limit) (isZero (coefficients c i))) e i below)))
-    (λ past. List·getD-eq-default c (pos 0) (omega arith))
 
 module _ (X : Complex) (c : Chain) where
   make-carried : (k : ℕ) (v : Chain) (d : ℕ) → Within (X d .n) c → make k v X d .carried c ≡ c

@@ -20,13 +20,14 @@ use Rattle.rules.specs.Chains.{isChain, carryLimit, carryStep}
 use Rattle.rules.specs.Calls.{Given, sizedChain, coefficients, carryCall, carriedBy}
 use Rattle.rules.proofs.branches.FirstTests.{both-passed}
 use Rattle.rules.proofs.calls.Limits.{chain-limit}
+use Rattle.rules.proofs.calls.ChainMap.{chain-within}
 use Rattle.good.specs.Tested.{tested}
 use Rattle.engine.specs.Carrying.{numberOf, rewritten, Rewritable, Carriable}
 use Rattle.engine.proofs.FirstTests.{refusedBy, chains-short, chains-refused, chains-sized}
 use Rattle.rules.proofs.storage.Stored.{count-is}
 use Rattle.engine.proofs.Shapes.{operator-formed}
 use Rattle.engine.proofs.Trials.{after-carry-refused, Edited, carry-accepted}
-use Rattle.engine.proofs.Carried.{chain-within, carried-is, split-passed, flip-passed}
+use Rattle.engine.proofs.Carried.{carried-is, split-passed, flip-passed}
 
 -- once the operator is read
 module _ {p : Pattern} {s : List ℕ} {o : Operator} {d : ℕ} {c out : List ℤ} (C : Carriable p s o d c out)

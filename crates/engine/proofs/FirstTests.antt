@@ -13,18 +13,7 @@ use Rattle.rules.specs.Complex.{Pattern, complex}
 use Rattle.rules.specs.Good.{isGood}
 use Rattle.rules.specs.Calls.{Given, sized, sizedChain}
 use Rattle.rules.proofs.branches.FirstTests.{both-passed, first-refused}
-use Rattle.rules.proofs.storage.Stored.{lengths}
-use Rattle.rules.proofs.storage.Tested.{complex-bounded, good-true}
 use Rattle.good.specs.Tested.{tested}
-use Rattle.operators.specs.Held.{Held}
-
--- a pattern that passed them
-pub held : (p : Pattern) → length (p .counts .n) ≡ 4 → tested p ≡ accepted → Held p
-unfolding tested
-held p four e =
-    let g = both-passed p e in
-    let l = lengths p (g .0) in
-    record { sized = record { four = four; size1 = l .0; size2 = l .1; size3 = l .2 }; good = good-true (complex-bounded p) (g .1) }
 
 -- a call with a chain is refused by r
 abbrev pub refusedBy : List ℤ → ℕ → Given

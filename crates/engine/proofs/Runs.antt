@@ -16,9 +16,9 @@ use Rattle.rules.specs.Operators.{step}
 use Rattle.rules.specs.Form.{operatorAt, facesOf, faultNumber}
 use Rattle.rules.specs.Script.{ended, runOne, runFrom}
 use Rattle.rules.specs.Calls.{lent, applied, operatorLeft}
+use Rattle.rules.specs.Good.{Held}
 use Rattle.rules.proofs.branches.Numbers.{fault-numbered}
-use Rattle.operators.specs.Held.{Held}
-use Rattle.operators.proofs.patterns.Kept.{applied-held}
+use Rattle.rules.proofs.calls.Left.{applied-held}
 use Rattle.operators.proofs.patterns.Answered.{answer-accepted, answer-refused}
 use Rattle.engine.specs.Source.{ReadFrom}
 use Rattle.engine.specs.Running.{here, Runnable, OperatorRun, RunTo}
@@ -49,7 +49,7 @@ module _ (s : List ℕ) (at : ℕ) (p : Pattern) (H : Held p) where
       pub turn-done : OperatorRun s at p next (a .refusal) (pattern (a .counts) m1 m2 m3)
       unfolding runOne
       turn-done = record {
-        held = applied-held s o H (operator-formed source) e;
+        held = applied-held H s o (operator-formed source) e;
         goes = λ q ran go.
             rw d (answer-accepted p s o e (λ r. ended (complex p) ran r) (λ X. go (here X (ran + 1) next)) H (operator-formed source) q);
         ends = λ n ran go.

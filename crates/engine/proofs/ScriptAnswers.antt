@@ -25,7 +25,7 @@ use Rattle.rules.proofs.bytes.Fields.{bad-field, after-got, after-operator, wor
 use Rattle.rules.proofs.storage.Stored.{stored-complex}
 use Rattle.good.specs.Tested.{tested}
 use Rattle.engine.specs.Running.{here, RunTo}
-use Rattle.engine.proofs.FirstTests.{held}
+use Rattle.good.proofs.Passing.{held}
 
 module _ (s : List ℕ) where
   -- the number of a list of operators is the one it was read for

@@ -14,9 +14,9 @@ use Rattle.rules.specs.declared.operator.Operator.{Operator}
 use Rattle.rules.specs.Form.{codeOf, listAt, makeAt, splitAt, cellAt, operandsAt, operatorAt}
 use Rattle.rules.proofs.bytes.Fields.{bad-operator, after-got, byte-after}
 use Rattle.rules.proofs.bytes.Decoded.{Formed, seam-bytes, list-bytes, decoded}
-use Rattle.operators.specs.Held.{MakeForm}
 use Rattle.operators.specs.Cells.{Dimension}
 use Rattle.operators.specs.Split.{SplitForm}
+use Rattle.operators.specs.Column.{MakeForm}
 use Rattle.engine.specs.Source.{ReadFrom}
 
 -- what each kind needs of its bytes

@@ -13,7 +13,7 @@ use Rattle.rules.specs.Complex.{Pattern, Chain}
 use Rattle.rules.specs.Edits.{put, negated}
 use Rattle.rules.specs.Operators.{Outcome, refused, edited, removed}
 use Rattle.rules.specs.Chains.{carryLimit}
-use Rattle.operators.specs.Held.{Held}
+use Rattle.rules.specs.Good.{Held}
 use Rattle.engine.specs.Source.{ReadFrom}
 
 -- the number of an outcome: that of its refusal, or 0

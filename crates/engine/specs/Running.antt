@@ -6,7 +6,7 @@ use Prim.Native.Nat.{ℕ, _+_, _≤_}
 use Rattle.rules.specs.Refusals.{accepted}
 use Rattle.rules.specs.Complex.{Pattern, Complex, complex}
 use Rattle.rules.specs.Script.{Ended, ended, Here, runOne, runFrom}
-use Rattle.operators.specs.Held.{Held}
+use Rattle.rules.specs.Good.{Held}
 
 abbrev pub here : Complex → ℕ → ℕ → Here
 here X ran at = record { now = X; ran = ran; at = at }

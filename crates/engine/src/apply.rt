@@ -5,7 +5,7 @@ ghost use Rattle.rules.specs.Operators.{step};
 ghost use Rattle.rules.specs.Form.{facesOf};
 ghost use Rattle.rules.specs.Calls.{applied};
 ghost use Rattle.rules.specs.Lending.{asLent, atEntry, left};
-ghost use Rattle.operators.specs.Held.{Held};
+ghost use Rattle.rules.specs.Good.{Held};
 ghost use Rattle.engine.specs.Source.{ReadFrom};
 use operators::flip::flip;
 use operators::kill::kill;

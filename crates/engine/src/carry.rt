@@ -9,7 +9,7 @@ ghost use Rattle.rules.specs.Form.{facesOf};
 ghost use Rattle.rules.specs.Chains.{carryLimit, carryStep};
 ghost use Rattle.rules.specs.Calls.{coefficients, carryCall, carriedBy};
 ghost use Rattle.rules.specs.Lending.{asLent, atEntry};
-ghost use Rattle.operators.specs.Held.{Held};
+ghost use Rattle.rules.specs.Good.{Held};
 ghost use Rattle.engine.specs.Source.{ReadFrom};
 ghost use Rattle.engine.specs.Carrying.{numberOf, rewritten, Rewritable, Carriable};
 use crate::apply::apply;

@@ -6,7 +6,7 @@ ghost use lib.ListN.{length, getD};
 ghost use Rattle.maths.specs.Tests.{all};
 ghost use Rattle.rules.specs.Counts.{countOf};
 ghost use Rattle.rules.specs.Lending.{asLent, atEntry, atExit};
-ghost use Rattle.operators.specs.Held.{Held};
+ghost use Rattle.rules.specs.Good.{Held};
 ghost use Rattle.engine.specs.Running.{Runnable, OperatorRun, RunTo};
 use crate::apply::apply;
 use form::fields::refusal_of;

@@ -13,20 +13,13 @@ use Rattle.rules.specs.Complex.{Pattern, complex}
 use Rattle.rules.specs.Mesh.{writeMesh}
 use Rattle.rules.specs.Calls.{Wrote, writeCall}
 use Rattle.rules.proofs.branches.FirstTests.{both-passed, first-refused}
-use Rattle.rules.proofs.storage.Tested.{complex-bounded, good-true}
 use Rattle.good.specs.Tested.{tested}
-use Rattle.operators.specs.Held.{Held}
-use Rattle.mesh.proofs.Wholes.{all-sized}
 
 -- the writer refuses by r
 abbrev refusedBy : List ℕ → ℕ → Wrote
 refusedBy out r = record { answer = record { written = 0; refusal = r }; out = out }
 
 module _ (p : Pattern) where
-  pub held : length (p .counts .n) ≡ 4 → tested p ≡ accepted → Held p
-  unfolding tested
-  held four e = let g = both-passed p e in record { sized = all-sized p four (g .0); good = good-true (complex-bounded p) (g .1) }
-
   module _ (out : List ℕ) where
     -- 1 or 2
     pub refused-pattern : {r : ℕ} → r ≡ tested p → r ≢ accepted → refusedBy out r ≡ writeCall p out

@@ -18,10 +18,11 @@ use Rattle.rules.specs.Operators.{makeStep, step}
 use Rattle.rules.specs.Form.{faultNumber, byteAt, makeAt, madeOf}
 use Rattle.rules.specs.Mesh.{Reading, faulty, refused, Place, readCell, readSection}
 use Rattle.rules.specs.Calls.{lent, applied}
+use Rattle.rules.specs.Good.{Held}
 use Rattle.rules.proofs.branches.Numbers.{fault-numbered}
 use Rattle.rules.proofs.bytes.Decoded.{made}
-use Rattle.operators.specs.Held.{Held, MakeForm}
-use Rattle.operators.proofs.patterns.Kept.{applied-held}
+use Rattle.operators.specs.Column.{MakeForm}
+use Rattle.rules.proofs.calls.Left.{applied-held}
 use Rattle.operators.proofs.patterns.Answered.{answer-accepted, answer-refused}
 use Rattle.mesh.specs.Reading.{Readable, PartRead}
 
@@ -65,7 +66,7 @@ module _ (s : List ℕ) (k at : ℕ) (p : Pattern) where
         let make = Operator.Make k at in
         let F = made s at k (R .dim) decoded .1 in
         record {
-          held = applied-held s make (R .held) F e;
+          held = applied-held (R .held) s make F e;
           goes = λ q go. rw decoded (answer-accepted p s make e refused (λ X. go (X, next)) (R .held) F q);
           ends = λ n. record {
             last = refused (a .refusal);

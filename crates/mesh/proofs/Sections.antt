@@ -8,8 +8,8 @@ use lib.ListN.{length, length-append}
 use Rattle.rules.specs.Counts.{countOf}
 use Rattle.rules.specs.Complex.{Pattern, complex}
 use Rattle.rules.specs.Mesh.{writeSection, writeMesh}
+use Rattle.rules.specs.Good.{Held}
 use Rattle.grid.specs.Grid.{Columns}
-use Rattle.operators.specs.Held.{Held}
 use Rattle.mesh.specs.Writing.{cellTexts, sectionText}
 use Rattle.mesh.proofs.CellTexts.{cells-most}
 

@@ -6,20 +6,18 @@ use mathlib.Core.List.{List, [], _∷_}
 use Prim.Native.Nat.{ℕ, zero, suc, _+_, _≤_}
 use native.Mathlib.Omega.{arith}
 use lib.IntN.{ℤ}
-use lib.ListN.{length}
 use Rattle.rules.specs.declared.answers.MeshRead.{MeshRead}
 use Rattle.rules.specs.declared.form.Fault.{Fault}
 use Rattle.rules.specs.declared.form.Field.{Field}
 use Rattle.rules.specs.Refusals.{accepted, wrongLength}
-use Rattle.rules.specs.Complex.{Pattern, Sized, pattern, Complex, complex, countsOf, empty, stored}
+use Rattle.rules.specs.Complex.{Pattern, pattern, Complex, complex, countsOf, empty, stored}
 use Rattle.rules.specs.Form.{faultNumber, byteAt}
 use Rattle.rules.specs.Mesh.{Reading, faulty, refused, taken, Place, corners, readSection, readMesh, afterReading}
 use Rattle.rules.specs.Calls.{lent, sized, noMesh, readCall}
 use Rattle.rules.proofs.bytes.Fields.{byte-says}
 use Rattle.rules.proofs.branches.Numbers.{fault-numbered}
 use Rattle.rules.proofs.texts.ReadGood.{corners-good}
-use Rattle.rules.proofs.storage.Stored.{lengths, complex-stored, stored-complex}
-use Rattle.operators.proofs.patterns.Kept.{stored-held}
+use Rattle.rules.proofs.storage.Stored.{complex-stored, stored-complex, stored-held}
 use Rattle.mesh.specs.Reading.{Zeros, zeros, refusalOf, PartRead, from, ReadUpTo, NextSection}
 
 module _ (s : List ℕ) where
@@ -70,10 +68,6 @@ module _ (s : List ℕ) where
 
     pub next-refused : r .refusal ≢ accepted → ReadUpTo s (k + 1) r p
     next-refused n = record { held = N .sofar .held; goes = λ e. absurd (n e); ends = N .sofar .ends }
-
--- a lent pattern that passed the test of its lengths
-pub all-sized : (p : Pattern) → length (p .counts .n) ≡ 4 → sized p ≡ true → Sized p
-all-sized p four e = let l = lengths p e in record { four = four; size1 = l .0; size2 = l .1; size3 = l .2 }
 
 -- what the call answers
 module _ (s : List ℕ) (p : Pattern) where

@@ -10,7 +10,7 @@ use Rattle.rules.specs.declared.answers.MeshRead.{MeshRead}
 use Rattle.rules.specs.Refusals.{accepted}
 use Rattle.rules.specs.Complex.{Pattern, complex, pattern}
 use Rattle.rules.specs.Mesh.{Reading, taken, Place, readSection, readMesh, afterReading}
-use Rattle.operators.specs.Held.{Held}
+use Rattle.rules.specs.Good.{Held}
 
 -- a good pattern, and a dimension
 pub record Readable (k : ℕ) (p : Pattern) : Type 0 where

@@ -7,8 +7,8 @@ use Rattle.maths.specs.Tables.{column}
 use Rattle.maths.specs.Buffers.{Fits}
 use Rattle.rules.specs.Complex.{Pattern, Chain, complex}
 use Rattle.rules.specs.Mesh.{faceCount, tailOf, headOf, pair, eachFace, writeCell, writeMesh}
+use Rattle.rules.specs.Good.{Held}
 use Rattle.grid.specs.Grid.{Line, Columns}
-use Rattle.operators.specs.Held.{Held}
 
 -- a seam, and a cell of a higher dimension
 abbrev pub seamText : Chain → List ℕ

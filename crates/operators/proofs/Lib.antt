@@ -1,2 +1,2 @@
--- Stored patterns, their counts, the answers, and what is left is good
+-- Stored patterns, their counts, and the answers
 pub mod patterns

@@ -1,5 +1,4 @@
 pub mod Patterns
 pub mod Counted
 pub mod Forms
-pub mod Kept
 pub mod Answered

@@ -10,7 +10,7 @@ use Rattle.rules.specs.Complex.{Pattern, Chain, complex, stored}
 use Rattle.rules.specs.Edits.{layers, make}
 use Rattle.rules.specs.Operators.{closed}
 use Rattle.rules.specs.Calls.{Lent, lent}
-use Rattle.operators.specs.Held.{Held}
+use Rattle.rules.specs.Good.{Held}
 
 -- whether a column was stored, and the matrix then
 pub record Tried : Type 0 where

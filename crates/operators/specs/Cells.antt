@@ -1,7 +1,7 @@
 -- What an operator on one cell needs, before and after it is known that there is such a cell.
 use Prim.Native.Nat.{ℕ, _<_, _≤_}
 use Rattle.rules.specs.Complex.{Pattern, complex}
-use Rattle.operators.specs.Held.{Held}
+use Rattle.rules.specs.Good.{Held}
 
 -- a dimension that the operator has, from `least` to `most`
 pub record Dimension (least most dim : ℕ) : Type 0 where

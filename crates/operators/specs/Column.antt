@@ -6,13 +6,20 @@ use Prim.Native.Nat.{ℕ, _<_, _≤_}
 use lib.IntN.{ℤ, pos, natAbs}
 use lib.ListN.{length, getD}
 use Rattle.grid.specs.Grid.{Blank}
+use Rattle.rules.specs.declared.form.OperatorForm.{OperatorForm}
+use Rattle.rules.specs.declared.operator.Operator.{Operator}
 use Rattle.rules.specs.Operators.{Faces, chainOf, allBelow}
-use Rattle.rules.specs.Form.{madeOf}
+use Rattle.rules.specs.Form.{makeAt, madeOf}
 use Rattle.rules.specs.Calls.{coefficients}
-use Rattle.operators.specs.Held.{MakeForm}
 use Rattle.operators.specs.declared.faces.Face.{Face}
 
--- the bytes of a cell to be made, and one of its faces
+-- the bytes from `list` on are those of a cell to be made
+pub record MakeForm (s : List ℕ) (dim list : ℕ) : Type 0 where
+  pub most : dim ≤ 3
+  pub next : ℕ
+  pub form : makeAt s dim list ≡ OperatorForm.Decoded (Operator.Make dim list) next
+
+-- the same, and one of its faces
 pub record FaceForm (s : List ℕ) (dim list l : ℕ) : Type 0 where
   pub bytes : MakeForm s dim list
   pub below : l < madeOf s dim list .n

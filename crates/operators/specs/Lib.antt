@@ -1,4 +1,3 @@
-pub mod Held
 -- make
 pub mod Column
 pub mod Boundary

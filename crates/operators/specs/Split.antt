@@ -17,8 +17,8 @@ use Rattle.rules.specs.Edits.{boundary, part, divider, halves, repeated, split}
 use Rattle.rules.specs.Operators.{Faces, chosen, isPart, divides, Outcome, edited, unless, afterStep}
 use Rattle.rules.specs.Form.{splitAt}
 use Rattle.rules.specs.Calls.{Lent, lent, coefficients}
+use Rattle.rules.specs.Good.{Held}
 use Rattle.operators.specs.Boundary.{edge}
-use Rattle.operators.specs.Held.{Held}
 use Rattle.operators.specs.Part.{Choice, partOf}
 
 -- the bytes up to `list`, and from it on, are those of a cell to be split

@@ -3,8 +3,7 @@ ghost use mathlib.Core.Path.{_≡_};
 ghost use lib.ListN.{getD, set};
 ghost use lib.IntN.{pos, _+ℤ_};
 ghost use Rattle.rules.specs.Form.{signOf, madeOf};
-ghost use Rattle.operators.specs.Held.{MakeForm};
-ghost use Rattle.operators.specs.Column.{FaceForm, IsFace, AddableAt, Drawable, Drawn};
+ghost use Rattle.operators.specs.Column.{FaceForm, IsFace, AddableAt, Drawable, Drawn, MakeForm};
 
 // One listed face.
 struct Face {

@@ -5,7 +5,7 @@ ghost use Rattle.rules.specs.Edits.{layers, flip};
 ghost use Rattle.rules.specs.Operators.{flipStep};
 ghost use Rattle.rules.specs.Calls.{applied};
 ghost use Rattle.rules.specs.Lending.{asLent, atEntry, atExit, left};
-ghost use Rattle.operators.specs.Held.{Held};
+ghost use Rattle.rules.specs.Good.{Held};
 ghost use Rattle.operators.specs.Cells.{Dimension, Cell};
 use grid::changes::negate_column;
 use grid::changes::negate_row;

@@ -6,7 +6,7 @@ ghost use Rattle.rules.specs.Operators.{chosen, splitStep};
 ghost use Rattle.rules.specs.Form.{chosenOf};
 ghost use Rattle.rules.specs.Calls.{applied};
 ghost use Rattle.rules.specs.Lending.{asLent, atEntry, left};
-ghost use Rattle.operators.specs.Held.{Held};
+ghost use Rattle.rules.specs.Good.{Held};
 ghost use Rattle.operators.specs.Part.{Choice};
 ghost use Rattle.operators.specs.Split.{SplitForm, Prepared, Splittable, around, divided, partStep, leaves};
 use crate::chosen::faces_below;

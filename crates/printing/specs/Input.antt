@@ -17,7 +17,7 @@ use Rattle.printing.specs.declared.run.InputRun.{InputRun}
 
 -- a refused mesh: nothing runs
 abbrev pub noRun : ℕ → Lent InputRun
-noRun r = lent (record { mesh = r; ran = 0; refusal = 0; counts = countsOf empty; euler = pos 0 }) (stored empty)
+noRun r = lent (record { mesh = r; ran = 0; refusal = accepted; counts = countsOf empty; euler = pos 0 }) (stored empty)
 
 -- how a script on a pattern that was read ends
 unfoldable pub endOf : List ℕ → Complex → Ended

@@ -29,7 +29,7 @@ pub(crate) fn run_input(s: &[u8], m1: &mut [i8], m2: &mut [i8], m3: &mut [i8]) -
         return InputRun {
             mesh: read.refusal,
             ran: 0,
-            refusal: 0,
+            refusal: ACCEPTED,
             counts: c,
             euler: 0,
         };

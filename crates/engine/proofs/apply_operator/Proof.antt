@@ -6,7 +6,7 @@ use Rattle.rules.specs.Refusals.{accepted}
 use Rattle.rules.specs.Complex.{Pattern}
 use Rattle.rules.specs.Lending.{asLent}
 use Rattle.good.specs.Tested.{tested}
-use Rattle.engine.proofs.FirstTests.{held}
+use Rattle.good.proofs.Passing.{held}
 use Rattle.engine.proofs.Answers.{lone-read, apply-not-good, apply-faulty, apply-done}
 use Rattle.engine.proofs.apply_operator.Statement.{statement}
 use Rattle.engine.proofs.apply_operator.Tie as tie

@@ -8,7 +8,7 @@ use Rattle.rules.specs.Refusals.{accepted}
 use Rattle.rules.specs.Complex.{Pattern}
 use Rattle.rules.specs.Lending.{asLent}
 use Rattle.good.specs.Tested.{tested}
-use Rattle.engine.proofs.FirstTests.{held}
+use Rattle.good.proofs.Passing.{held}
 use Rattle.engine.proofs.ScriptAnswers.{script-says, too-long, run-not-good, run-faulty, run-stale, run-done}
 use Rattle.engine.proofs.run_script.Statement.{statement}
 use Rattle.engine.proofs.run_script.Tie as tie

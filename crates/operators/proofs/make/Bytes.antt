@@ -16,8 +16,7 @@ use Rattle.rules.specs.Form.{byteAt, listAt, makeAt, madeOf, signOf}
 use Rattle.rules.proofs.bytes.Fields.{byte-says, bad-operator, after-got}
 use Rattle.rules.proofs.bytes.Decoded.{Formed, made}
 use Rattle.rules.proofs.bytes.Listed.{Listed, list-says}
-use Rattle.operators.specs.Held.{MakeForm}
-use Rattle.operators.specs.Column.{IsFace}
+use Rattle.operators.specs.Column.{IsFace, MakeForm}
 use Rattle.operators.specs.declared.faces.Face.{Face}
 
 -- head is there, after tail

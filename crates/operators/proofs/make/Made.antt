@@ -19,12 +19,11 @@ use Rattle.rules.specs.declared.answers.Applied.{Applied}
 use Rattle.rules.specs.Counts.{countOf, grownAt}
 use Rattle.rules.specs.Refusals.{accepted, noSuchCell, noRoom, notClosed}
 use Rattle.rules.specs.Complex.{Pattern, Chain, bare, complex, countsOf, pattern, layer, Sized}
-use Rattle.rules.specs.Good.{allZero, closes}
+use Rattle.rules.specs.Good.{allZero, closes, Held}
 use Rattle.rules.specs.Edits.{layers, at3, put, make}
 use Rattle.rules.specs.Operators.{Faces, chainOf, allBelow, closed, makeStep}
 use Rattle.rules.specs.Calls.{Lent, lent, coefficients, applied}
 use Rattle.rules.proofs.layers.Judged.{closes-rows}
-use Rattle.operators.specs.Held.{Held}
 use Rattle.operators.specs.Append.{tried, setIf, appended, Storable, Closable, Appendable}
 
 -- the counts: one more at dimension k

@@ -7,7 +7,7 @@ use Rattle.rules.specs.declared.answers.Applied.{Applied}
 use Rattle.rules.specs.declared.operator.Operator.{Operator}
 use Rattle.rules.specs.Refusals.{accepted}
 use Rattle.rules.specs.Complex.{Pattern, Complex, complex}
-use Rattle.rules.specs.Good.{Good}
+use Rattle.rules.specs.Good.{Good, Held}
 use Rattle.rules.specs.Edits.{Step, layers}
 use Rattle.rules.specs.Operators.{Outcome, refused, edited, removed, step, afterStep}
 use Rattle.rules.specs.Form.{facesOf}
@@ -16,7 +16,6 @@ use Rattle.rules.proofs.branches.Numbers.{Numbered, step-numbered}
 use Rattle.rules.proofs.bytes.Decoded.{Formed}
 use Rattle.rules.proofs.scripts.Steps.{edit-kept, removal-kept}
 use Rattle.rules.proofs.storage.Stored.{complex-stored}
-use Rattle.operators.specs.Held.{Held}
 
 module _ (p : Pattern) {l : Lent Applied} where
   number-is : {r r' : ℕ} → l .answer .refusal ≡ r' → l ≡ applied p (refused r) → r ≡ r'

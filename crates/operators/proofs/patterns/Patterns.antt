@@ -13,8 +13,8 @@ use Rattle.rules.specs.Refusals.{accepted}
 use Rattle.rules.specs.Complex.{Pattern, Complex, complex, countsOf, stored, pattern, Sized}
 use Rattle.rules.specs.Operators.{Outcome}
 use Rattle.rules.specs.Calls.{lent, applied}
+use Rattle.rules.specs.Good.{Held}
 use Rattle.rules.proofs.storage.Stored.{stored-complex}
-use Rattle.operators.specs.Held.{Held}
 use Rattle.operators.specs.Cells.{Dimension, Cell}
 
 -- the count of each dimension

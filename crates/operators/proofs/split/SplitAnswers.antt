@@ -20,8 +20,8 @@ use Rattle.rules.specs.Edits.{Step, layers, at3, boundary, part, divider, halve
 use Rattle.rules.specs.Operators.{Faces, allBelow, chosen, isPart, divides, edited, unless, splitStep}
 use Rattle.rules.specs.Form.{chosenOf}
 use Rattle.rules.specs.Calls.{Lent, lent, applied}
+use Rattle.rules.specs.Good.{Held}
 use Rattle.rules.proofs.storage.Stored.{stored-complex}
-use Rattle.operators.specs.Held.{Held}
 use Rattle.operators.specs.Split.{SplitForm, Prepared, partStep, leaves}
 use Rattle.operators.proofs.chosen.SplitForms.{choice}
 

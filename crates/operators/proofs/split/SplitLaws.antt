@@ -15,7 +15,7 @@ use Rattle.rules.specs.Edits.{Step, layers, at3, boundary, part, halves, repeat
 use Rattle.rules.specs.Operators.{Faces, chosen, isPart, divides, edited, unless}
 use Rattle.rules.specs.Form.{chosenOf}
 use Rattle.rules.specs.Calls.{Lent, lent}
-use Rattle.operators.specs.Held.{Held}
+use Rattle.rules.specs.Good.{Held}
 use Rattle.operators.specs.Split.{Fine, Splittable, Prepared, Around, around, divided, partStep, leaves}
 use Rattle.operators.specs.Boundary.{edge}
 

@@ -3,7 +3,7 @@
 use mathlib.Core.Path.{_≡_, refl, sym, _∙_, ap, fun-ext}
 use mathlib.Core.Bool.{true}
 use mathlib.Core.List.{List}
-use Prim.Native.Nat.{ℕ, suc, _<_, _≤_}
+use Prim.Native.Nat.{ℕ, suc, _≤_}
 use native.Mathlib.Omega.{arith}
 use borrow.Author.Tests.{lt-ltb, le-ltb, le-leb, leb-true}
 use lib.Dec.{leb}
@@ -29,7 +29,7 @@ use Rattle.rules.proofs.storage.Tested.{good-is}
 use Rattle.rules.proofs.accepting.Passed.{carry-step}
 use Rattle.rules.proofs.scripts.Steps.{Edit, edit-kept}
 use Rattle.rules.proofs.calls.Limits.{chain-limit, boundary-limit, carried-limit}
-use Rattle.rules.proofs.calls.ChainCalls.{ChainSizes, BoundaryTaken, CarryTaken, boundaryOut, carryOut, boundary-taken, carry-taken, boundary-takes, carry-takes, list-limit}
+use Rattle.rules.proofs.calls.ChainCalls.{BoundaryTaken, CarryTaken, boundaryOut, carryOut, boundary-taken, carry-taken, boundary-takes, carry-takes, list-limit}
 use Rattle.rules.proofs.calls.Left.{lone-at}
 
 -- a table of 96 read back

@@ -2,7 +2,7 @@
 -- moved by the listed amounts, and a script that is faulty or stale runs nothing.
 use mathlib.Core.Path.{_≡_, refl, sym, _∙_, ap}
 use mathlib.Core.Logic.{_≢_}
-use mathlib.Core.Bool.{true, false, _&&_}
+use mathlib.Core.Bool.{true, false}
 use mathlib.Core.List.{List}
 use Prim.Native.Nat.{ℕ}
 use lib.IntN.{ℤ, pos, _+ℤ_, +ℤ-idr}
@@ -19,13 +19,13 @@ use Rattle.rules.specs.declared.form.OperatorForm.{OperatorForm}
 use Rattle.rules.specs.declared.operator.Operator.{Operator}
 use Rattle.rules.specs.Refusals.{accepted, stale}
 use Rattle.rules.specs.Complex.{Pattern, Complex, complex, stored, euler}
-use Rattle.rules.specs.Good.{Good, Held, isGood}
+use Rattle.rules.specs.Good.{Held}
 use Rattle.rules.specs.Operators.{amountOf, step}
 use Rattle.rules.specs.Form.{operatorAt, loneOperator, facesOf, scriptForm, faultNumber}
 use Rattle.rules.specs.Script.{runScript, movedBy, sameBase}
 use Rattle.rules.specs.Calls.{Lent, lent, sized, sizedScript, applied, operatorLeft, scriptLeft, eulerCall, applyCall, runCall}
 use Rattle.rules.proofs.branches.Branches.{cond-each, operator-each, step-each}
-use Rattle.rules.proofs.branches.Numbers.{fault-numbered, step-numbered}
+use Rattle.rules.proofs.branches.Numbers.{step-numbered}
 use Rattle.rules.proofs.bytes.Fields.{bad-operator, after-operator}
 use Rattle.rules.proofs.bytes.Decoded.{Formed, decoded}
 use Rattle.rules.proofs.storage.Stored.{sized-is, stored-held, stored-complex, complex-stored}

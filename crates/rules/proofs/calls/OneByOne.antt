@@ -1,6 +1,6 @@
 -- A script in calls of one operator: the call of a script leaves what the calls of the operators that ran, one by one, leave; and the operator that is
 -- refused is refused by its own call with the same number, which changes nothing.
-use mathlib.Core.Path.{_≡_, refl, sym, _∙_, ap, subst}
+use mathlib.Core.Path.{_≡_, refl, _∙_, ap, subst}
 use mathlib.Core.Logic.{_≢_}
 use mathlib.Core.Bool.{true}
 use mathlib.Core.List.{List}
@@ -26,7 +26,7 @@ use Rattle.rules.specs.Script.{Ended, ended, Here, runOne, runFrom, same
 use Rattle.rules.specs.Calls.{Lent, lent, sizedScript, applied, operatorLeft, scriptLeft, applyCall, runCall}
 use Rattle.rules.proofs.branches.Branches.{cond-each, step-each}
 use Rattle.rules.proofs.bytes.Fields.{bad-field, after-got, after-operator}
-use Rattle.rules.proofs.bytes.Decoded.{Formed, decoded}
+use Rattle.rules.proofs.bytes.Decoded.{decoded}
 use Rattle.rules.proofs.bytes.Alone.{bytesFrom, alone}
 use Rattle.rules.proofs.storage.Stored.{sized-is, stored-held, complex-stored, stored-complex}
 use Rattle.rules.proofs.storage.Tested.{good-is}

@@ -1,5 +1,5 @@
 -- Demand 3 through a script, operator by operator, in the bytes of the calls.
-use mathlib.Core.Path.{_≡_, refl, sym, _∙_, ap}
+use mathlib.Core.Path.{_≡_, sym, _∙_, ap}
 use mathlib.Core.List.{List}
 use Prim.Native.Nat.{ℕ, suc}
 use lib.IntN.{ℤ, pos}
@@ -20,15 +20,15 @@ use Rattle.rules.proofs.calls.ChainMap.{carried-call, calls-commute, ca
 use Rattle.rules.proofs.calls.OneByOne.{callAt, Calls, none, more}
 
 -- the output that is lent; an accepted call sets all of it
-abbrev pub blank : List ℤ
-blank = table 96 (λ i. pos 0)
+abbrev pub zeroChain : List ℤ
+zeroChain = table 96 (λ i. pos 0)
 
 -- the chain c of dimension d carried through the operator that stands in the script from `at` up to `next`; its boundary
 abbrev pub carryAt : List ℕ → ℕ → ℕ → ℕ → Pattern → List ℤ → Given
-carryAt s at next d p c = carryCall p (bytesFrom s at next) d c blank
+carryAt s at next d p c = carryCall p (bytesFrom s at next) d c zeroChain
 
 abbrev pub boundaryOf : ℕ → Pattern → List ℤ → Given
-boundaryOf d p c = boundaryCall p d c blank
+boundaryOf d p c = boundaryCall p d c zeroChain
 
 -- n operators from `at`, each accepted by carrying: from the pattern p and the chain c to the pattern q and the chain c'
 pub data Carrying (s : List ℕ) (d : ℕ) : ℕ → ℕ → Pattern → List ℤ → Pattern → List ℤ → Type 0 where
@@ -43,7 +43,7 @@ module _ (s : List ℕ) where
   carrying-calls {at = at} H arrived = (at, none)
   carrying-calls {d} {at = at} {p} {q} {c} H (through {n = n} {next = next} e a rest) =
       let b = bytesFrom s at next in
-      let C = carry-taken p b d c blank a in
+      let C = carry-taken p b d c zeroChain a in
       let r : Calls s n next (operatorLeft (callAt s at next p)) _ q = carrying-calls (apply-held H b) rest .1 in
       (_, more e (ap (λ (l : Lent Applied). l .answer .refusal) (carried-call H b (C .1))) r)
 
@@ -53,7 +53,7 @@ module _ (s : List ℕ) where
   carrying-commutes H arrived a = (a, arrived)
   carrying-commutes {d} {at = at} {p} {q} {c} {c'} H (through {n = n} {next = next} e a rest) taken =
       let b = bytesFrom s at next in
-      let M = calls-commute H b d c blank blank (length-table 0 96 _) a taken in
+      let M = calls-commute H b d c zeroChain zeroChain (length-table 0 96 _) a taken in
       let r = carrying-commutes (apply-held H b) rest (M .taken) in
       let on : Carrying s d n next (operatorLeft (callAt s at next p)) (carryAt s at next d p (boundaryOf (suc d) p c .out) .out) q (boundaryOf (suc d) q c' .out) =
       rw (← M .same) (r .1) in
@@ -66,4 +66,4 @@ module _ (s : List ℕ) where
       let b = bytesFrom s at next in
       let q : next' ≡ next = cc (sym e' ∙ e) in
       let r : Carrying s d n next (operatorLeft (callAt s at next p)) (carryAt s at next d p c' .out) q' x' = rw q at rest' in
-      carry-faithful H b d c c' blank blank a (rw q at a') (carrying-faithful (apply-held H b) rest r same)
+      carry-faithful H b d c c' zeroChain zeroChain a (rw q at a') (carrying-faithful (apply-held H b) rest r same)

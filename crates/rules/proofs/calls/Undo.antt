@@ -1,6 +1,5 @@
 -- Merge undoes split: any accepted split followed by merge at the dividing cell is accepted and gives back every count and every byte.
 use mathlib.Core.Path.{_≡_, _∙_, ap}
-use mathlib.Core.Bool.{true}
 use mathlib.Core.List.{List, [], _∷_}
 use Prim.Native.Nat.{ℕ, zero, suc, _+_, _<_, _≤_}
 use native.Mathlib.Omega.{arith}

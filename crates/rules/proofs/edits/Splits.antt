@@ -5,12 +5,12 @@ use mathlib.Core.Bool.{Bool}
 use Prim.Native.Nat.{ℕ, suc, _<_, _≤_}
 use native.Mathlib.Omega.{arith}
 use borrow.Author.Tests.{ne-eqb}
-use lib.IntN.{ℤ, pos, negsuc, negℤ, _+ℤ_, _-ℤ_, _*ℤ_, +ℤ-idl, +ℤ-idr, *ℤ-comm, *ℤ-zero}
+use lib.IntN.{ℤ, pos, negsuc, negℤ, _+ℤ_, _-ℤ_, _*ℤ_, +ℤ-idl, *ℤ-comm}
 use Rattle.maths.specs.Sums.{dot, δ}
 use Rattle.maths.proofs.Integers.{*ℤ-distr-r, *ℤ-distr-l, sorted, ints}
 use Rattle.maths.proofs.Cases.{eqb-same, eq-or}
 use Rattle.maths.proofs.Sums.{δ-same, δ-no}
-use Rattle.maths.proofs.Dots.{dot-+l, dot-+r, dot-*l, dot-*r, dot-neg-l, dot-neg-r, dot-δ-l, dot-δ-r, dot-0-l, dot-assoc, dot-rank1}
+use Rattle.maths.proofs.Dots.{dot-+l, dot-+r, dot-*l, dot-*r, dot-neg-l, dot-neg-r, dot-δ-l, dot-δ-r, dot-0-l, dot-assoc}
 use Rattle.rules.specs.Complex.{Layer, Complex, Chain}
 use Rattle.rules.specs.Edits.{Step, kept, layers, put, boundary, part, divider, halves, repeated, split}
 use Rattle.rules.proofs.layers.Changes.{put-same, put-no, put-is, put-zero, part-zero, rest-is}

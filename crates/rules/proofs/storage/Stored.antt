@@ -50,12 +50,17 @@ count-is p (suc (suc (suc (suc k)))) h = absurd (omega arith)
 pub sized-is : {p : Pattern} → Sized p → sized p ≡ true
 sized-is {p} S = and-both (and-both (eq-eqb (length (p .m1)) 9216 (S .size1)) (eq-eqb (length (p .m2)) 9216 (S .size2))) (eq-eqb (length (p .m3)) 9216 (S .size3))
 
-pub lengths : (p : Pattern) → sized p ≡ true → (length (p .m1) ≡ 9216) × (length (p .m2) ≡ 9216) × (length (p .m3) ≡ 9216)
-lengths p e =
+pub all-sized : (p : Pattern) → length (p .counts .n) ≡ 4 → sized p ≡ true → Sized p
+all-sized p four e =
     let one = eqb (length (p .m1)) 9216 in
     let two = eqb (length (p .m2)) 9216 in
     let both = and-left (one && two) _ e in
-    (eqb-true _ _ (and-left one two both), eqb-true _ _ (and-right one two both), eqb-true _ _ (and-right (one && two) _ e))
+    record {
+      four = four;
+      size1 = eqb-true _ _ (and-left one two both);
+      size2 = eqb-true _ _ (and-right one two both);
+      size3 = eqb-true _ _ (and-right (one && two) _ e);
+    }
 
 pub stored-sized : (X : Complex) → Sized (stored X)
 stored-sized X = record { four = refl; size1 = length-tab (X 1 .d); size2 = length-tab (X 2 .d); size3 = length-tab (X 3 .d) }

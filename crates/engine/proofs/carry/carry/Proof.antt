@@ -9,7 +9,8 @@ use Rattle.rules.specs.Complex.{Pattern}
 use Rattle.rules.specs.Calls.{sizedChain}
 use Rattle.rules.specs.Lending.{asLent}
 use Rattle.good.specs.Tested.{tested}
-use Rattle.engine.proofs.FirstTests.{held, chain-long, out-long}
+use Rattle.good.proofs.Passing.{held}
+use Rattle.engine.proofs.FirstTests.{chain-long, out-long}
 use Rattle.engine.proofs.Answers.{lone-read}
 use Rattle.engine.proofs.CarryAnswers.{carry-short, carry-not-good, carry-form, carry-faulty, carry-done}
 use Rattle.engine.proofs.carry.carry.Statement.{statement}

@@ -6,7 +6,8 @@ use borrow.Author.Tests.{not-true, not-false}
 use Rattle.rules.specs.Complex.{Pattern, countsOf, empty}
 use Rattle.rules.specs.Calls.{sized}
 use Rattle.rules.specs.Lending.{asLent}
-use Rattle.mesh.proofs.Wholes.{all-sized, wrong-length, reading-taken, reading-refused}
+use Rattle.rules.proofs.storage.Stored.{all-sized}
+use Rattle.mesh.proofs.Wholes.{wrong-length, reading-taken, reading-refused}
 use Rattle.mesh.proofs.reader.read_mesh.Statement.{statement}
 use Rattle.mesh.proofs.reader.read_mesh.Tie as tie
 

@@ -6,9 +6,10 @@ use borrow.Author.Needs.{needs}
 use Rattle.rules.specs.Refusals.{accepted}
 use Rattle.rules.specs.Complex.{Pattern}
 use Rattle.good.specs.Tested.{tested}
-use Rattle.operators.specs.Held.{Held}
 use Rattle.rules.specs.Lending.{asLent}
-use Rattle.mesh.proofs.Answers.{held, refused-pattern, refused-buffer, written}
+use Rattle.rules.specs.Good.{Held}
+use Rattle.good.proofs.Passing.{held}
+use Rattle.mesh.proofs.Answers.{refused-pattern, refused-buffer, written}
 use Rattle.mesh.proofs.writer.write_mesh.Statement.{statement}
 use Rattle.mesh.proofs.writer.write_mesh.Tie as tie
 
