@@ -80,6 +80,13 @@ module _ {p : Pattern} (H : Held p) (s : List ℕ) {d : ℕ} {c out : List ℤ} 
   pub carried-read : coefficients (table 96 (S d .carried (coefficients c))) ≡ S d .carried (coefficients c)
   carried-read = read-table _ (λ i l. carried-of i (omega (arith, carried-edit .kept .good .few d)))
 
+  -- which can be carried on
+  pub carried-on : isChain carryLimit (complex (stored (layers S)) d .n) (coefficients (table 96 (S d .carried (coefficients c)))) ≡ true
+  carried-on =
+      let small : (i : ℕ) → natAbs (S d .carried (coefficients c) i) ≤ carryLimit =
+      carried-limit (complex p) (C .operator) (facesOf s (C .operator)) (C .carried) carryLimit d (coefficients c) (list-limit carryLimit c (C .sizes .long) (chain-limit carryLimit _ (coefficients c) (C .chain))) in
+      rw (carried-read, complex-stored (carried-edit .kept .good)) (chain-is carryLimit (S d .layer .n) (S d .carried (coefficients c)) small carried-of)
+
 -- two calls that write the same, both accepted
 pub record Commute (x y : Given) : Type 0 where
   pub taken : x .refusal ≡ accepted
