@@ -6,7 +6,7 @@ ghost use Rattle.rules.specs.Complex.{Sized, countsOf, empty};
 ghost use Rattle.rules.specs.Lending.{asLent};
 use maths::SIZE;
 use printing::print;
-use printing::read_failed;
+use printing::read_input;
 
 // A length in three bytes.
 fn length_of(low: u8, middle: u8, high: u8) -> usize {
@@ -20,19 +20,19 @@ fn print_next(input: &mut [u8], m1: &mut [i8], m2: &mut [i8], m3: &mut [i8], out
     requires { ⌜ 38400 ≤ length (now out) ⌝ }
 {
     let mut head = [0u8; 3];
-    let got = io::read_full(0, &mut head);
-    if got != 3 {
-        read_failed(&mut head[got..]);
+    let length = read_input(&mut head);
+    if length.n != 3 {
         return false;
     }
     let size = length_of(head[0], head[1], head[2]);
     if 65536 < size {
         return false;
     }
-    let n = io::read_full(0, &mut input[..size]);
-    if read_failed(&mut input[n..size]) {
+    let read = read_input(&mut input[..size]);
+    if read.failed {
         return false;
     }
+    let n = read.n;
     print(&input[..n], m1, m2, m3, out)
 }
 

@@ -1,14 +1,15 @@
 // The program: a mesh followed by a script is read from standard input, and the printed result is written.
 use maths::SIZE;
 use printing::print;
-use printing::read_failed;
+use printing::read_input;
 
 fn main() {
     let mut input = io::large_buffer();
-    let n = io::read_full(0, &mut input);
-    if read_failed(&mut input[n..]) {
+    let read = read_input(&mut input);
+    if read.failed {
         return;
     }
+    let n = read.n;
     let mut m1 = [0i8; SIZE];
     let mut m2 = [0i8; SIZE];
     let mut m3 = [0i8; SIZE];

@@ -11,9 +11,15 @@ use crate::run::run_input;
 mod pieces;
 mod run;
 
+// How many bytes were read, and whether reading ended since a read failed.
+pub struct InputRead {
+    pub n: usize,
+    pub failed: bool,
+}
+
 // Whether reading ended since a read failed, and not since the input did, which `io::read_full` does not tell: the next read, into the rest of
 // the buffer, does. It is told on standard error.
-pub fn read_failed(rest: &mut [u8]) -> bool {
+fn read_failed(rest: &mut [u8]) -> bool {
     if rest.len() == 0 {
         return false;
     }
@@ -22,6 +28,23 @@ pub fn read_failed(rest: &mut [u8]) -> bool {
         return true;
     }
     false
+}
+
+// Reads standard input until the buffer is full or the input ends.
+pub fn read_input(buffer: &mut [u8]) -> InputRead
+    ensures { λ r. ⌜ r .n ≤ length (now (buffer .entry)) ⌝ }
+{
+    let n = io::read_full(0, buffer);
+    let failed = read_failed(&mut buffer[n..]);
+    InputRead { n, failed }
+}
+
+// Whether all was written; if not, it is told on standard error.
+fn told(written: bool) -> bool {
+    if !written {
+        os::fail(b"standard output");
+    }
+    written
 }
 
 // A mesh and the script after it are run, and the result is written in three pieces, each by way of `out`. Whether all of it was written; a write
@@ -37,9 +60,5 @@ pub fn print(s: &[u8], m1: &mut [i8], m2: &mut [i8], m3: &mut [i8], out: &mut [u
     let second = io::write_all(1, &out[..panels]);
     let blocks = put_blocks(out, run, m3);
     let third = io::write_all(1, &out[..blocks]);
-    let written = first & second & third;
-    if !written {
-        os::fail(b"standard output");
-    }
-    written
+    told(first & second & third)
 }

@@ -36,4 +36,4 @@ print-spec =
     put-head-requires (λ c. piece-inside (c .before .before .put-head .ensures)) (λ c. piece-length (c .before .before .before .put-head .ensures)) (λ c κs. search needs)
     put-panels-requires (λ c. piece-inside (c .before .before .put-panels .ensures)) (λ c. piece-length (c .before .before .before .put-panels .ensures)) (λ c κs. search needs)
     put-blocks-requires (λ c. piece-inside (c .before .before .put-blocks .ensures)) (λ c. piece-length (c .before .before .before .put-blocks .ensures)) (λ c κs. search needs)
-    (λ c. search needs) (λ c. search needs) (λ c. search needs) (λ c. search needs) (λ c. search needs))
+    (λ c κs. search needs) (λ c. search needs) (λ c. search needs) (λ c. search needs) (λ c. search needs) (λ c. search needs))
