@@ -28,15 +28,16 @@ passed : (c : tie.Else2) → tested (entry (first c)) ≡ accepted
 passed c = sym (c .before .refusal-of-pattern .ensures) ∙ c .if2 .left
 
 short : (c : tie.Else2) → length (first c .args .s .now) ≤ 24576
-short c = c .before .before .before .before .before .if1 .left
+short c = let test = c .before .before .before .before .before in test .if1 .left
 
 script-long : tie.Need-returns
 script-long c = rw (c .idle .ensures) (too-long _ _ (c .before .if1 .taken))
 
 not-good : tie.Need-returns-2
 not-good c =
-    let test = c .before .before in
-    rw (c .idle2 .ensures) (run-not-good _ _ (test .before .before .before .before .if1 .left) (test .refusal-of-pattern .ensures) (c .before .if2 .taken))
+    let call = c .before .before in
+    let test = call .before .before .before .before in
+    rw (c .idle2 .ensures) (run-not-good _ _ (test .if1 .left) (call .refusal-of-pattern .ensures) (c .before .if2 .taken))
 
 same-base-requires : tie.Need-same-base-requires
 same-base-requires c κs =

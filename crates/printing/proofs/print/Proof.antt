@@ -33,7 +33,7 @@ put-blocks-requires c κs =
 pub print-spec : {M : Type 1} → statement M
 print-spec =
     tie.close (tie.spec (λ c κs. search needs)
-    put-head-requires (λ c. piece-inside (c .before .before .put-head .ensures)) (λ c. piece-length (c .before .before .before .put-head .ensures)) (λ c κs. search needs)
-    put-panels-requires (λ c. piece-inside (c .before .before .put-panels .ensures)) (λ c. piece-length (c .before .before .before .put-panels .ensures)) (λ c κs. search needs)
-    put-blocks-requires (λ c. piece-inside (c .before .before .put-blocks .ensures)) (λ c. piece-length (c .before .before .before .put-blocks .ensures)) (λ c κs. search needs)
+    put-head-requires (λ c. piece-inside (c .before .before .put-head .ensures)) (λ c. let put = c .before .before .before in piece-length (put .put-head .ensures)) (λ c κs. search needs)
+    put-panels-requires (λ c. piece-inside (c .before .before .put-panels .ensures)) (λ c. let put = c .before .before .before in piece-length (put .put-panels .ensures)) (λ c κs. search needs)
+    put-blocks-requires (λ c. piece-inside (c .before .before .put-blocks .ensures)) (λ c. let put = c .before .before .before in piece-length (put .put-blocks .ensures)) (λ c κs. search needs)
     (λ c κs. search needs) (λ c. search needs) (λ c. search needs) (λ c. search needs) (λ c. search needs) (λ c. search needs))

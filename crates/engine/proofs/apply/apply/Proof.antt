@@ -8,35 +8,40 @@ use Rattle.engine.proofs.apply.apply.Tie as tie
 make-requires : tie.Need-make-requires
 make-requires c κs =
     let arm = c .before .before .before .before in
-    let (held, source) = arm .before .before .before .pre in
+    let start = arm .before .before .before in
+    let (held, source) = start .pre in
     let form = rw (arm .o .given .1) at (shaped source) in
     (held, form)
 
 kill-requires : tie.Need-kill-requires
 kill-requires c κs =
     let arm = c .before .before .before .before in
-    let (held, source) = arm .before .before .before .pre in
+    let start = arm .before .before .before in
+    let (held, source) = start .pre in
     let form = rw (arm .o2 .given .1) at (shaped source) in
     (form, held)
 
 split-requires : tie.Need-split-requires
 split-requires c κs =
     let arm = c .before .before .before .before in
-    let (held, source) = arm .before .before .before .pre in
+    let start = arm .before .before .before in
+    let (held, source) = start .pre in
     let form = rw (arm .o3 .given .1) at (shaped source) in
     (held, form)
 
 merge-requires : tie.Need-merge-requires
 merge-requires c κs =
     let arm = c .before .before .before .before in
-    let (held, source) = arm .before .before .before .pre in
+    let start = arm .before .before .before in
+    let (held, source) = start .pre in
     let form = rw (arm .o4 .given .1) at (shaped source) in
     (form, held)
 
 flip-requires : tie.Need-flip-requires
 flip-requires c κs =
     let arm = c .before .before .before .before in
-    let (held, source) = arm .before .before .before .pre in
+    let start = arm .before .before .before in
+    let (held, source) = start .pre in
     let form = rw (arm .o5 .given .1) at (shaped source) in
     (form, held)
 

@@ -25,7 +25,10 @@ entry s = let a = s .args in asLent (a .c) (a .m1) (a .m2) (a .m3)
 four : (s : tie.Start) → length (s .args .c .n) ≡ 4
 four s = search needs
 
--- the moments: the chains are 96 long, the dimension is one that is offered
+-- the moments: the chains are 96 long, the pattern is good, the dimension is one that is offered
+abbrev lent : tie.Else2 → tie.Start
+lent good = good .before .before .before
+
 abbrev long : tie.Else3 → tie.Else1
 long ranged = ranged .before .before .before
 
@@ -37,7 +40,7 @@ sized : (c : tie.Else1) → sizedChain (c .before .args .chain .now) && sizedCha
 sized c = not-false _ (c .if1 .left)
 
 -- the pattern passed its test
-passed : (c : tie.Else2) → tested (entry (c .before .before .before)) ≡ accepted
+passed : (c : tie.Else2) → tested (entry (lent c)) ≡ accepted
 passed c = sym (c .before .refusal-of-pattern .ensures) ∙ c .if2 .left
 
 -- the dimension is 1, 2 or 3
@@ -55,8 +58,9 @@ returns-2 c = boundary-not-good _ _ _ _ (sized (c .before .before)) (c .before .
 
 returns-3 : tie.Need-returns-3
 returns-3 c =
-    let s = c .before .before .before .before in
-    boundary-form (entry s) (s .args .d) _ _ (sized (c .before .before .before)) (passed (c .before)) (not-true _ (c .if3 .taken))
+    let good = c .before in
+    let s = lent good in
+    boundary-form (entry s) (s .args .d) _ _ (sized (good .before .before)) (passed good) (not-true _ (c .if3 .taken))
 
 array-read-is-chain : tie.Need-array-read-is-chain
 array-read-is-chain c = omega (arith, most (c .before))

@@ -15,6 +15,10 @@ Inv-loop m chain out₀ j₀ out j = Multiplied m chain j out
 abbrev μ-loop : tie.MeasureT-loop
 μ-loop m chain out₀ j₀ out j = 96 - j
 
+-- the start, before the loop
+abbrev start : tie.At-loop Inv-loop μ-loop → tie.Start Inv-loop μ-loop
+start turn = turn .before .before .before .before
+
 clear32-requires : tie.Need-clear32-requires Inv-loop μ-loop
 clear32-requires c κs = c .before .pre .room
 
@@ -24,30 +28,29 @@ loop-holds c = product-none _ _ (c .before .clear32 .ensures)
 add-times32-requires : tie.Need-add-times32-requires Inv-loop μ-loop
 add-times32-requires c κs =
     let a = c .before .before .before in
-    let start = a .before .before .before .before in
-    rw (back w32 (c .before .v .given), a .loop .inv .are) (product-terms (start .pre) (a .loop .j) (omega arith))
+    rw (back w32 (c .before .v .given), a .loop .inv .are) (product-terms (start a .pre) (a .loop .j) (omega arith))
 
 loop-again : tie.Need-loop-again Inv-loop μ-loop
 loop-again c =
-    let a = c .before .before .before .before .before in
-    let start = a .before .before .before .before in
+    let coefficient = c .before .before .before in
+    let a = coefficient .before .before in
     record {
       upto = omega arith;
       are = c .before .add-times32 .ensures
-          ∙ rw (a .loop .inv .are, back w32 (c .before .before .before .v .given)) (product-more (start .pre) (a .loop .j) (omega arith));
+          ∙ rw (a .loop .inv .are, back w32 (coefficient .v .given)) (product-more (start a .pre) (a .loop .j) (omega arith));
     }
 
 same-length : tie.Need-same-length Inv-loop μ-loop
 same-length c =
     let a = c .before in
-    product-long (a .loop .inv) ∙ sym (a .before .before .before .before .pre .room)
+    product-long (a .loop .inv) ∙ sym (start a .pre .room)
 
 returns : tie.Need-returns Inv-loop μ-loop
 returns c =
     let a = c .before in
-    let start = a .before .before .before .before in
+    let lent = start a .args in
     let e : a .loop .j ≡ 96 = omega (arith, a .loop .inv .upto) in
-    a .loop .inv .are ∙ ap (λ k. product (start .args .m .now) (start .args .chain .now) k) e
+    a .loop .inv .are ∙ ap (λ k. product (lent .m .now) (lent .chain .now) k) e
 
 pub multiply-spec : {M : Type 1} → statement M
 multiply-spec =

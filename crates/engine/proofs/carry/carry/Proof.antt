@@ -28,7 +28,10 @@ sized : (c : tie.Else1) → let a = c .before .before .args in sizedChain (a .ch
 sized c = not-false _ (c .if1 .left)
 
 -- the pattern passed its test
-passed : (c : tie.Else2) → tested (entry (c .before .before .before .before)) ≡ accepted
+abbrev lent : tie.Else2 → tie.Start
+lent good = good .before .before .before .before
+
+passed : (c : tie.Else2) → tested (entry (lent c)) ≡ accepted
 passed c = sym (c .before .refusal-of-pattern .ensures) ∙ c .if2 .left
 
 -- the moment of the chains' test, seen from that of the dimension's
@@ -44,7 +47,7 @@ not-good c = carry-not-good _ _ _ _ _ (sized (c .before .before)) (c .before .re
 not-offered : tie.Need-returns-3
 not-offered c =
     let test = c .before in
-    let s = test .before .before .before .before in
+    let s = lent test in
     carry-form (entry s) _ (s .args .d) _ _ (sized (test .before .before)) (passed test) (c .if3 .taken)
 
 carry-through-requires : tie.Need-carry-through-requires

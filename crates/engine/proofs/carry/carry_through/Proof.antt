@@ -19,7 +19,9 @@ abbrev tried : tie.Else2 → tie.Else1
 tried test = test .before .before .before
 
 refused : tie.Need-returns
-refused c = through-refused (c .before .before .before .pre) (c .before .refusal-of-carrying .ensures) (c .if1 .taken)
+refused c =
+    let s = c .before .before .before in
+    through-refused (s .pre) (c .before .refusal-of-carrying .ensures) (c .if1 .taken)
 
 wrong-chain : tie.Need-returns-2
 wrong-chain c =

@@ -9,7 +9,8 @@ apply-requires c κs =
     let third = c .before .before .before .before in
     let second = third .before .before .before in
     let first = second .before .before .before in
-    let (held, source) = first .before .before .before .pre in
+    let start = first .before .before .before in
+    let (held, source) = start .pre in
     (rw (first .copy-all .ensures, second .copy-all2 .ensures, third .copy-all3 .ensures) held, source)
 
 returns : tie.Need-returns

@@ -42,6 +42,12 @@ negate-requires c κs =
     let given = start (of-flip arm) .pre in
     rw (back w32 (c .z .given)) (given .limits _ (given .flip-cell (arm .o2 .given .1) (c .before .if2 .taken)))
 
+flip-room : tie.Need-slice-set-from-turned
+flip-room c =
+    let arm = c .before .before .before .before in
+    let copy = of-flip arm in
+    flip-inside (start copy .pre) (copy .copy-chain .ensures) (arm .o2 .given .1) (c .before .before .if2 .taken)
+
 make-returns : tie.Need-returns
 make-returns c =
     let copy = c .before .before .before in
@@ -87,7 +93,6 @@ write-carried-spec =
     tie.close (tie.spec (λ c κs. search needs) (λ c. search needs) (λ c. search needs) (λ c. search needs) (λ c. search needs)
     (λ c. search needs) split-cell (λ c. search needs) split-room (λ c. search needs) (λ c. search needs) (λ c. search needs)
     (λ c. search needs) flip-cell negate-requires (λ c. search needs) (λ c. search needs)
-    (λ c. let arm = c .before .before .before .before in let copy = of-flip arm in
-    flip-inside (start copy .pre) (copy .copy-chain .ensures) (arm .o2 .given .1) (c .before .before .if2 .taken))
+    flip-room
     (λ c. search needs) make-returns (λ c. search needs) kill-returns (λ c. search needs) split-returns (λ c. search needs) split-kept
     (λ c. search needs) merge-returns (λ c. search needs) flip-returns (λ c. search needs) flip-kept)

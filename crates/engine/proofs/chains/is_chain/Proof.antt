@@ -29,12 +29,14 @@ returns : tie.Need-returns Inv-loop μ-loop
 unfolding isChain
 returns c =
     let told = rw (back w32 (c .before .before .is-coefficient-arg .given)) at (c .before .is-coefficient .ensures) in
-    passed-not (c .before .before .before .before .loop .inv) (omega arith) (sym told ∙ not-true _ (c .if1 .taken))
+    let turn = c .before .before .before .before in
+    passed-not (turn .loop .inv) (omega arith) (sym told ∙ not-true _ (c .if1 .taken))
 
 loop-again : tie.Need-loop-again Inv-loop μ-loop
 loop-again c =
     let told = rw (back w32 (c .before .before .is-coefficient-arg .given)) at (c .before .is-coefficient .ensures) in
-    passed-more (c .before .before .before .before .loop .inv) (omega arith) (sym told ∙ not-false _ (c .if1 .left))
+    let turn = c .before .before .before .before in
+    passed-more (turn .loop .inv) (omega arith) (sym told ∙ not-false _ (c .if1 .left))
 
 returns-2 : tie.Need-returns-2 Inv-loop μ-loop
 unfolding isChain

@@ -8,17 +8,20 @@ use Rattle.form.proofs.Bytes.{word-is, ends, wrong, read}
 use Rattle.form.proofs.fields.word_form.Statement.{statement}
 use Rattle.form.proofs.fields.word_form.Tie as tie
 
+abbrev start : tie.After-shared-slice-known2 → tie.Start
+start read = read .before .before .before .before
+
 -- both bytes are below 256
 bytes : (c : tie.After-shared-slice-known2) →
-    let a = c .before .before .before .before .args in
+    let a = start c .args in
     (getD (now (a .s)) (a .at) 0 < 256) × (getD (now (a .s)) (a .at + 1) 0 < 256)
 bytes c =
     let byte = c .shared-slice-known2 .given in
-    let at = c .before .before .before .before .args .at in
+    let at = start c .args .at in
     (omega (arith, byte at), omega (arith, byte (at + 1)))
 
 low-fits : tie.Need-cast-x
-low-fits c = omega (arith, c .shared-slice-known .given (c .before .before .before .args .at))
+low-fits c = let s = c .before .before .before in omega (arith, c .shared-slice-known .given (s .args .at))
 
 no-byte : tie.Need-returns
 no-byte c = rw word-is (ends _ _ _ _ _ _ (omega arith))

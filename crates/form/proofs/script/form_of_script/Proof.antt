@@ -8,9 +8,12 @@ use Rattle.form.proofs.Bytes.{is}
 use Rattle.form.proofs.script.form_of_script.Statement.{statement}
 use Rattle.form.proofs.script.form_of_script.Tie as tie
 
+abbrev start : tie.After-enum-told2 → tie.Start
+start counts = counts .before .before .before .before .before .before .before
+
 -- the base count and the counts are read: what is left is the operator count and the operators
 headed : (c : tie.After-enum-told2) →
-    let s = now (c .before .before .before .before .before .before .before .args .s) in
+    let s = now (start c .args .s) in
     scriptForm s ≡ after (wordAt s 5 1024) Field.Bad λ count. operatorsAt s count count 7
 unfolding scriptForm
 headed c =

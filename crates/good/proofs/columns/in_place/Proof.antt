@@ -29,8 +29,9 @@ returns c =
 
 loop-again : tie.Need-loop-again Inv-loop μ-loop
 loop-again c =
+    let turn = c .before .before .before in
     let e = sym (c .before .column-in-place .ensures) ∙ not-false _ (c .if1 .left) in
-    passed-more (c .before .before .before .loop .inv) (omega arith) e
+    passed-more (turn .loop .inv) (omega arith) e
 
 returns-2 : tie.Need-returns-2 Inv-loop μ-loop
 returns-2 c =

@@ -11,14 +11,17 @@ use Rattle.good.proofs.pattern.is_good.Tie as tie
 abbrev entry : tie.Start → Pattern
 entry s = let a = s .args in asLent (a .c) (a .m1) (a .m2) (a .m3)
 
--- the entry, after the four counts
+-- the moments: the first count, the entry
+abbrev first : tie.After-count4 → tie.After-count
+first c = c .before .before .before
+
 abbrev start : tie.After-count4 → tie.Start
-start c = c .before .before .before .before .before .before
+start c = first c .before .before .before
 
 counted : (c : tie.After-count4) → Counted (entry (start c))
-    (c .before .before .before .count .result) (c .before .before .count2 .result) (c .before .count3 .result) (c .count4 .result)
+    (first c .count .result) (c .before .before .count2 .result) (c .before .count3 .result) (c .count4 .result)
 counted c =
-    let a = c .before .before .before in
+    let a = first c in
     record {
       corners = a .count .ensures;
       seams = c .before .before .count2 .ensures;

@@ -10,8 +10,9 @@ use Rattle.good.proofs.pattern.is_sound.Tie as tie
 is-formed-requires : tie.Need-is-formed-requires
 is-formed-requires c κs =
     let a = c .before in
+    let start = a .before .before .before in
     let t = three (c .if1 .taken) in (
-      a .before .before .before .pre,
+      start .pre,
       record {
         first = in-place-at _ _ _ (sym (a .before .before .in-place .ensures) ∙ t .0);
         second = in-place-at _ _ _ (sym (a .before .in-place2 .ensures) ∙ t .1);

@@ -13,7 +13,8 @@ returns c =
     let end = c .before .before in
     let number = end .before .before .before .before in
     let label = number .before .before .before .before in
-    let whole = rw (toZ-ofZ (label .before .before .before .before .fits .z)) at (number .put-whole .ensures .put) in
+    let start = label .before .before .before .before in
+    let whole = rw (toZ-ofZ (start .fits .z)) at (number .put-whole .ensures .put) in
     let last = two-pieces whole (end .put .ensures) in
     record { put = two-pieces (label .put-all .ensures) last; most = omega arith }
 

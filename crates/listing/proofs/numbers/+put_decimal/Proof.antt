@@ -28,17 +28,20 @@ pub +put-decimal-spec : {M : Type 1} → statement M
 +put-decimal-spec =
     close μ-put-decimal λ t. lts.spec (put.Asked, put.Learnt, asked t, put-decimal.Post) (given t) put-decimal.Post
     (λ c. omega arith) (λ c. omega arith) (λ c κs. omega arith) (λ c. search needs)
-    (λ c. record { put = rw (decimal-one _ (c .before .before .before .before .if1 .taken)) (c .before .before .put .ensures); most = omega arith })
+    (λ c.
+    let digit = c .before .before in
+    record { put = rw (decimal-one _ (digit .before .before .if1 .taken)) (digit .put .ensures); most = omega arith })
     (λ c κs. (omega arith, record { small = omega arith; room = omega arith }))
     (λ c. omega arith) (λ c. omega arith)
-    (λ c κs. omega (arith, decimal-3 (c .before .before .before .before .before .before .before .args .n / 10) (omega arith)))
+    (λ c κs. let start = c .before .before .before .before .before .before .before in omega (arith, decimal-3 (start .args .n / 10) (omega arith)))
     (λ c. search needs)
     (λ c.
     let digit = c .before .before in
     let others = digit .before .before .before .before in
+    let start = others .before .before .before .before in
     record {
       put =
           rw (decimal-more _ (others .before .before .if1 .left) (omega arith))
           (two-pieces (others .put-decimal .ensures .put) (digit .put2 .ensures));
-      most = omega (arith, decimal-3 (others .before .before .before .before .args .n / 10) (omega arith));
+      most = omega (arith, decimal-3 (start .args .n / 10) (omega arith));
     })

@@ -54,6 +54,6 @@ returns-2 c =
 
 pub put-whole-spec : {M : Type 1} → statement M
 put-whole-spec =
-    tie.close (tie.spec (λ c. search needs) (λ c. neg-fits w16 {x = c .before .before .before .before .args .z} refl (omega arith))
+    tie.close (tie.spec (λ c. search needs) (λ c. let start = c .before .before .before .before in neg-fits w16 {x = start .args .z} refl (omega arith))
     cast-put-labelled put-labelled-requires (λ c. search needs) returns cast-put-decimal (λ c κs. search needs) (λ c. search needs)
     returns-2)

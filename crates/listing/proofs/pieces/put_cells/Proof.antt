@@ -21,7 +21,8 @@ line-cell-requires c κs =
 loop-again : tie.Need-loop-again Inv-loop μ-loop
 loop-again c =
     let line = c .before .before in
-    begun-more (line .before .before .before .loop .inv) (omega arith) (line .line-cell .ensures)
+    let turn = line .before .before .before in
+    begun-more (turn .loop .inv) (omega arith) (line .line-cell .ensures)
 
 pub put-cells-spec : {M : Type 1} → statement M
 put-cells-spec =

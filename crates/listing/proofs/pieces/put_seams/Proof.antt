@@ -20,7 +20,8 @@ line-seam-requires c κs =
 loop-again : tie.Need-loop-again Inv-loop μ-loop
 loop-again c =
     let line = c .before .before in
-    begun-more (line .before .before .before .loop .inv) (omega arith) (line .line-seam .ensures)
+    let turn = line .before .before .before in
+    begun-more (turn .loop .inv) (omega arith) (line .line-seam .ensures)
 
 pub put-seams-spec : {M : Type 1} → statement M
 put-seams-spec =

@@ -30,12 +30,15 @@ read-cell-requires c κs =
     let loop = c .before .before .before .before in
     record { dim = loop .before .before .pre .dim; held = loop .loop .inv .held }
 
--- from a refused cell to its reading, and from there to the turn that it is read in
+-- from a refused cell to its reading, and from there to the test of the turn that it is read in
 abbrev reading : tie.Then1 Inv-loop μ-loop → tie.After-read-cell Inv-loop μ-loop
 reading c = c .before .before .before .before .before
 
+abbrev some-left : tie.After-read-cell Inv-loop μ-loop → tie.In-loop Inv-loop μ-loop
+some-left call = call .before .before .before .before
+
 abbrev turn : tie.After-read-cell Inv-loop μ-loop → tie.At-loop Inv-loop μ-loop
-turn c = c .before .before .before .before .before
+turn call = some-left call .before
 
 -- every pattern on the way is as long as the one at entry
 at-entry : (c : tie.At-loop Inv-loop μ-loop) → Sized (entry (c .before .before))
@@ -57,7 +60,7 @@ stopped c =
     let start = loop .before .before in
     let a = start .args in
     cells-stop (a .s .now) (a .k) (a .n) (first start) (loop .loop .inv) (call .read-cell .ensures)
-    (call .before .before .before .before .loop-test .taken) (c .if1 .taken)
+    (some-left call .loop-test .taken) (c .if1 .taken)
 
 loop-again : tie.Need-loop-again Inv-loop μ-loop
 loop-again c =
@@ -67,7 +70,7 @@ loop-again c =
     let start = loop .before .before in
     let a = start .args in
     cells-more (a .s .now) (a .k) (a .n) (first start) (loop .loop .inv) (call .read-cell .ensures)
-    (call .before .before .before .before .loop-test .taken) (test .if1 .left)
+    (some-left call .loop-test .taken) (test .if1 .left)
 
 same-length-4 : tie.Need-same-length-4 Inv-loop μ-loop
 same-length-4 c = c .before .loop .inv .held .sized .size1 ∙ sym (at-entry (c .before) .size1)

@@ -35,7 +35,7 @@ mesh-length-spec =
     (λ c. search needs)
     (λ c κs. panel-columns (c .before .before .pre))
     (λ c. search needs)
-    (λ c κs. block-columns (c .before .before .before .pre))
+    (λ c κs. let lent = c .before .before .before in block-columns (lent .pre))
     (λ c. omega (arith, small c))
     (λ c. omega (arith, small c))
     (λ c. omega (arith, small c))

@@ -18,8 +18,8 @@ pub put-cell-spec : {M : Type 1} → statement M
 put-cell-spec =
     tie.close
     (tie.spec
-    (λ c κs. rw (cell-seam _ (c .before .if1 .taken)) at (c .before .before .before .pre))
-    (λ c κs. rw (cell-list _ (c .before .if1 .left)) at (c .before .before .before .pre))
+    (λ c κs. let test = c .before in rw (cell-seam _ (test .if1 .taken)) at (test .before .before .pre))
+    (λ c κs. let test = c .before in rw (cell-list _ (test .if1 .left)) at (test .before .before .pre))
     (λ c. search needs)
     returns
     (λ c. search needs)

@@ -18,7 +18,8 @@ returns c =
 
 -- the two bytes are the text
 two : (c : tie.After-sign-byte) →
-    let start = c .before .before .before .before .before in oneFace pair (start .args .i) (start .args .z) ≡ start .args .i ∷ c .sign-byte .result ∷ []
+    let start = c .before .before .before .before .before in
+    oneFace pair (start .args .i) (start .args .z) ≡ start .args .i ∷ c .sign-byte .result ∷ []
 two c =
     let test = c .before .before in
     let start = test .before .before .before in
@@ -27,4 +28,4 @@ two c =
 pub put-face-spec : {M : Type 1} → statement M
 put-face-spec =
     tie.close (tie.spec (λ c κs. search needs) returns (λ c κs. search needs) (λ c κs. omega (arith, ap length (two c)))
-    (λ c. search needs) (λ c. rw (two (c .before .before .before)) (c .before .before .put-two .ensures)))
+    (λ c. search needs) (λ c. let put = c .before .before in rw (two (put .before)) (put .put-two .ensures)))

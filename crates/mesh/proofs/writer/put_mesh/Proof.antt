@@ -24,19 +24,22 @@ before-panels c = c .before .before .before .before
 
 put-section-requires : tie.Need-put-section-requires
 put-section-requires c κs =
-    let start = before-corners (c .before .before .before) in
+    let corners = c .before .before .before in
+    let start = before-corners corners in
     let size = mesh-size (entry start) in
     record { columns = seam-columns (start .pre .held); room = omega arith }
 
 put-section-requires-2 : tie.Need-put-section-requires-2
 put-section-requires-2 c κs =
-    let start = before-corners (before-seams (c .before .before .before)) in
+    let seams = c .before .before .before in
+    let start = before-corners (before-seams seams) in
     let size = mesh-size (entry start) in
     record { columns = panel-columns (start .pre .held); room = omega arith }
 
 put-section-requires-3 : tie.Need-put-section-requires-3
 put-section-requires-3 c κs =
-    let start = before-corners (before-seams (before-panels (c .before .before .before))) in
+    let panels = c .before .before .before in
+    let start = before-corners (before-seams (before-panels panels)) in
     let size = mesh-size (entry start) in
     record { columns = block-columns (start .pre .held); room = omega arith }
 
@@ -55,7 +58,7 @@ put-mesh-spec =
     tie.close
     (tie.spec
     (λ c. search needs)
-    (λ c κs. omega (arith, mesh-size (entry (c .before .before .before))))
+    (λ c κs. let start = c .before .before .before in omega (arith, mesh-size (entry start)))
     (λ c. search needs)
     put-section-requires
     (λ c. search needs)

@@ -28,7 +28,8 @@ put-cell-requires c κs =
 loop-again : tie.Need-loop-again Inv-loop μ-loop
 loop-again c =
     let cell = c .before .before in
-    pieces-more (cell .before .before .before .loop .inv) (omega arith) (cell .put-cell .ensures)
+    let turn = cell .before .before .before in
+    pieces-more (turn .loop .inv) (omega arith) (cell .put-cell .ensures)
 
 returns : tie.Need-returns Inv-loop μ-loop
 unfolding cellTexts

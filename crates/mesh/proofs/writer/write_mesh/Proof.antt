@@ -27,6 +27,12 @@ passed c = sym (c .before .refusal-of-pattern .ensures) ∙ c .if1 .left
 good : (c : tie.Else1) → Held (entry (start c))
 good c = let four : length (start c .args .c .n) ≡ 4 = search needs in held (entry (start c)) four (passed c)
 
+done : tie.Need-returns-3
+done c =
+    let put = c .before .before in
+    let test = put .before .before .before .before in
+    written _ _ (passed test) (omega arith) (put .put-mesh .ensures)
+
 pub write-mesh-spec : {M : Type 1} → statement M
 write-mesh-spec =
     tie.close
@@ -35,6 +41,6 @@ write-mesh-spec =
     (λ c. refused-pattern _ _ (c .before .refusal-of-pattern .ensures) (c .if1 .taken))
     (λ c κs. good c)
     (λ c. refused-buffer _ _ (passed (c .before .before)) (omega arith))
-    (λ c κs. record { held = good (c .before .before .before); room = omega arith })
+    (λ c κs. let test = c .before .before .before in record { held = good test; room = omega arith })
     (λ c. search needs)
-    (λ c. let put = c .before .before in written _ _ (passed (put .before .before .before .before)) (omega arith) (put .put-mesh .ensures)))
+    done)

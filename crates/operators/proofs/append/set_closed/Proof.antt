@@ -30,7 +30,7 @@ open-column c =
     set-open (a .at) (a .column .now) (a .m .now) (some start) (tested (c .before) ∙ not-true _ (c .if1 .taken))
 
 set-some-requires : tie.Need-set-some-requires
-set-some-requires c κs = c .before .before .before .pre .storable
+set-some-requires c κs = let start = c .before .before .before in start .pre .storable
 
 tried : tie.Need-returns-2
 tried c =

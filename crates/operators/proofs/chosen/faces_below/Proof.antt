@@ -16,21 +16,26 @@ Inv-loop s dim list n count l₀ l = Passed (λ l. ltb (getD s (list + 1 + l) 0)
 abbrev μ-loop : tie.MeasureT-loop
 μ-loop s dim list n count l₀ l = count - l
 
+abbrev start : tie.In-loop Inv-loop μ-loop → tie.Start Inv-loop μ-loop
+start turn = turn .before .before .before .before .before
+
 -- every number of a list is there
-there : (c : tie.In-loop Inv-loop μ-loop) → let a = c .before .before .before .before .before .args in a .list + getD (a .s .now) (a .list) 0 < length (a .s .now)
-there c = c .before .before .before .before .before .pre .inside (omega arith)
+there : (c : tie.In-loop Inv-loop μ-loop) → let a = start c .args in a .list + getD (a .s .now) (a .list) 0 < length (a .s .now)
+there c = start c .pre .inside (omega arith)
 
 returns : tie.Need-returns Inv-loop μ-loop
 returns c = none-listed _ _ _ _ (c .if1 .taken)
 
 returns-2 : tie.Need-returns-2 Inv-loop μ-loop
 returns-2 c =
-    passed-not (c .before .before .before .loop .inv) (omega arith) (rw (← c .before .byte-at2 .ensures) (le-ltb _ _ (c .if2 .taken)))
+    let turn = c .before .before .before in
+    passed-not (turn .loop .inv) (omega arith) (rw (← c .before .byte-at2 .ensures) (le-ltb _ _ (c .if2 .taken)))
     ∙ all-listed _ _ _ _ (omega arith)
 
 loop-again : tie.Need-loop-again Inv-loop μ-loop
 loop-again c =
-    passed-more (c .before .before .before .loop .inv) (omega arith) (rw (← c .before .byte-at2 .ensures) (lt-ltb _ _ (c .if2 .left)))
+    let turn = c .before .before .before in
+    passed-more (turn .loop .inv) (omega arith) (rw (← c .before .byte-at2 .ensures) (lt-ltb _ _ (c .if2 .left)))
 
 returns-3 : tie.Need-returns-3 Inv-loop μ-loop
 returns-3 c = passed-all (c .before .loop .inv) (omega arith) ∙ all-listed _ _ _ _ (omega arith)

@@ -25,6 +25,10 @@ abbrev μ-loop : tie.MeasureT-loop
 abbrev start : tie.At-loop Inv-loop μ-loop → tie.Start Inv-loop μ-loop
 start turn = turn .before .before .before
 
+-- the turn that looks at an entry
+abbrev looking : tie.After-is-zero8 Inv-loop μ-loop → tie.At-loop Inv-loop μ-loop
+looking entry = entry .before .before .before .before
+
 -- a listed number is below 96
 small : (c : tie.After-byte-at2 Inv-loop μ-loop) → c .byte-at2 .result < 96
 small c =
@@ -33,7 +37,7 @@ small c =
     omega (arith, c .byte-at2 .ensures, numbered .low (turn .loop .l) (omega arith))
 
 -- what was looked at
-told : (c : tie.After-is-zero8 Inv-loop μ-loop) → let turn = c .before .before .before .before in let x = start turn .args in
+told : (c : tie.After-is-zero8 Inv-loop μ-loop) → let turn = looking c in let x = start turn .args in
     isZero (column (now (x .m)) (x .cell) (numbers (now (x .s)) (x .list) .number (turn .loop .l))) ≡ c .is-zero8 .result
 told c =
     let b = c .before .before in
@@ -43,10 +47,10 @@ told c =
 
 returns : tie.Need-returns Inv-loop μ-loop
 unfolding allThere
-returns c = passed-not (c .before .before .before .before .before .loop .inv) (omega arith) (ap not (told (c .before) ∙ c .if1 .taken))
+returns c = passed-not (looking (c .before) .loop .inv) (omega arith) (ap not (told (c .before) ∙ c .if1 .taken))
 
 loop-again : tie.Need-loop-again Inv-loop μ-loop
-loop-again c = passed-more (c .before .before .before .before .before .loop .inv) (omega arith) (ap not (told (c .before) ∙ c .if1 .left))
+loop-again c = passed-more (looking (c .before) .loop .inv) (omega arith) (ap not (told (c .before) ∙ c .if1 .left))
 
 returns-2 : tie.Need-returns-2 Inv-loop μ-loop
 unfolding allThere

@@ -41,6 +41,6 @@ returns c =
 pub take-head-spec : {M : Type 1} → statement M
 take-head-spec =
     tie.close (tie.spec Inv-loop μ-loop (λ c. omega arith) loop-holds (λ c. omega arith) (λ c. omega arith) (λ c κs. tt)
-    (λ c. omega (arith, c .before .before .before .loop .inv .1 .long))
+    (λ c. let turn = c .before .before .before in omega (arith, turn .loop .inv .1 .long))
     (λ c. omega arith) (λ c. omega arith) loop-again
     (λ c. c .before .loop .inv .1 .long) returns)

@@ -47,5 +47,5 @@ returns c = mark-end (c .before .loop .inv) (omega arith)
 pub take-listed-spec : {M : Type 1} → statement M
 take-listed-spec =
     tie.close (tie.spec Inv-loop μ-loop (λ c. omega arith) (λ c κs. omega arith) loop-holds (λ c. omega arith) (λ c. omega arith) (λ c κs. omega arith)
-    (λ c. omega (arith, small c)) (λ c. omega (arith, small c)) (λ c. omega (arith, small (c .before), c .before .before .before .loop .inv .size))
+    (λ c. omega (arith, small c)) (λ c. omega (arith, small c)) (λ c. let turn = c .before .before .before in omega (arith, small (c .before), turn .loop .inv .size))
     (λ c. omega arith) (λ c. omega arith) loop-again same-length returns)

@@ -17,12 +17,14 @@ returns c =
 
 take-listed-requires : tie.Need-take-listed-requires
 take-listed-requires c κs =
-    let (choice, takeable) = c .before .before .before .pre in
+    let s = c .before .before .before in
+    let (choice, takeable) = s .pre in
     (choice .numbered (omega arith), takeable)
 
 listed-there-requires : tie.Need-listed-there-requires
 listed-there-requires c κs =
-    let (choice, takeable) = c .before .before .before .before .before .pre in
+    let taken = c .before in
+    let (choice, takeable) = start taken .pre in
     (choice .numbered (omega arith), takeable .line)
 
 returns-2 : tie.Need-returns-2

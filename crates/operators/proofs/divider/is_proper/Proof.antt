@@ -6,7 +6,9 @@ use Rattle.operators.proofs.divider.is_proper.Statement.{statement}
 use Rattle.operators.proofs.divider.is_proper.Tie as tie
 
 returns : tie.Need-returns
-returns c = proper-then (now (c .before .before .before .args .v)) (c .before .before .are-units .ensures) (c .before .if1 .taken) (c .are-zero .ensures)
+returns c =
+    let start = c .before .before .before in
+    proper-then (now (start .args .v)) (c .before .before .are-units .ensures) (c .before .if1 .taken) (c .are-zero .ensures)
 
 returns-2 : tie.Need-returns-2
 returns-2 c = proper-else (now (c .before .before .args .v)) (c .before .are-units .ensures) (c .if1 .left)

@@ -6,7 +6,9 @@ use Rattle.operators.proofs.divider.is_seam.Statement.{statement}
 use Rattle.operators.proofs.divider.is_seam.Tie as tie
 
 returns : tie.Need-returns
-returns c = seam-then (now (c .before .before .before .args .v)) (c .before .before .are-units .ensures) (c .before .if1 .taken) (c .one-each .ensures)
+returns c =
+    let start = c .before .before .before in
+    seam-then (now (start .args .v)) (c .before .before .are-units .ensures) (c .before .if1 .taken) (c .one-each .ensures)
 
 returns-2 : tie.Need-returns-2
 returns-2 c = seam-else (now (c .before .before .args .v)) (c .before .are-units .ensures) (c .if1 .left)

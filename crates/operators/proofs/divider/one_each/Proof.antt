@@ -6,7 +6,9 @@ use Rattle.operators.proofs.divider.one_each.Statement.{statement}
 use Rattle.operators.proofs.divider.one_each.Tie as tie
 
 returns : tie.Need-returns
-returns c = ends-then (now (c .before .before .before .args .v)) (c .before .before .times-of .ensures) (c .before .if1 .taken) (c .times-of2 .ensures)
+returns c =
+    let start = c .before .before .before in
+    ends-then (now (start .args .v)) (c .before .before .times-of .ensures) (c .before .if1 .taken) (c .times-of2 .ensures)
 
 returns-2 : tie.Need-returns-2
 returns-2 c = ends-else (now (c .before .before .args .v)) (c .before .times-of .ensures) (c .if1 .left)

@@ -38,7 +38,7 @@ face-at-requires : tie.Need-face-at-requires Inv-loop μ-loop
 face-at-requires c κs = listed c
 
 same-length : tie.Need-same-length Inv-loop μ-loop
-same-length c = let t = c .before .before .before .before in t .loop .inv .size ∙ sym (start t .pre .blank .size)
+same-length c = let t = turn (c .before .before) in t .loop .inv .size ∙ sym (start t .pre .blank .size)
 
 returns : tie.Need-returns Inv-loop μ-loop
 returns c =
@@ -63,7 +63,8 @@ add-at-requires c κs =
 
 add-l : tie.Need-add-l Inv-loop μ-loop
 add-l c =
-    let t = turn (c .before .before .before .before .before .before) in
+    let call = c .before .before .before .before .before .before in
+    let t = turn call in
     omega (arith, t .loop .inv .upto, faces-few (start t .pre .bytes))
 
 loop-less : tie.Need-loop-less Inv-loop μ-loop
@@ -71,9 +72,10 @@ loop-less c = omega arith
 
 loop-again : tie.Need-loop-again Inv-loop μ-loop
 loop-again c =
-    let call = c .before .before .before .before .before .before in
+    let test = c .before .before .before .before in
+    let call = test .before .before in
     let t = turn call in
-    summed-more _ _ (t .loop .inv) (listed (call .before) .below) (start t .pre .few) (c .before .before .before .before .if1 .left)
+    summed-more _ _ (t .loop .inv) (listed (call .before) .below) (start t .pre .few) (test .if1 .left)
     (call .face-at .ensures .number) (sign-is call) (c .before .add-at .ensures)
 
 same-length-2 : tie.Need-same-length-2 Inv-loop μ-loop

@@ -34,7 +34,9 @@ shared-slice-read-number : tie.Need-shared-slice-read-number
 shared-slice-read-number c = ends (c .before)
 
 cast-number : tie.Need-cast-number
-cast-number c = let a = c .before .before .before .args in omega (arith, c .shared-slice-known2 .given (a .list + a .l))
+cast-number c =
+    let start = c .before .before .before in
+    omega (arith, c .shared-slice-known2 .given (start .args .list + start .args .l))
 
 returns : tie.Need-returns
 returns c = seam-tail _ _ _ _ (c .before .before .if1 .taken) (c .if2 .taken)
@@ -58,10 +60,12 @@ shared-slice-read-sign-of : tie.Need-shared-slice-read-sign-of
 shared-slice-read-sign-of c = omega (arith, pair (c .before))
 
 shared-slice-read-t16 : tie.Need-shared-slice-read-t16
-shared-slice-read-t16 c = omega (arith, pair (c .before .before .before))
+shared-slice-read-t16 c = let list = c .before .before .before in omega (arith, pair list)
 
 cast-t14 : tie.Need-cast-t14
-cast-t14 c = let a = c .before .before .before .before .before .args in omega (arith, c .shared-slice-known4 .given (a .list + 1 + 2 * a .l))
+cast-t14 c =
+    let start = c .before .before .before .before .before in
+    omega (arith, c .shared-slice-known4 .given (start .args .list + 1 + 2 * start .args .l))
 
 returns-3 : tie.Need-returns-3
 returns-3 c =

@@ -19,7 +19,8 @@ returns c = let (range, held) = c .before .before .pre in flip-absent (absent ra
 returns-2 : tie.Need-returns-2
 returns-2 c =
     let f = c .before .before .before in
-    flip-done (here (f .before .before .before .before)) (f .flip-at .ensures)
+    let test = f .before .before .before .before in
+    flip-done (here test) (f .flip-at .ensures)
 
 pub flip-spec : {M : Type 1} → statement M
 flip-spec =
@@ -27,7 +28,7 @@ flip-spec =
     (tie.spec
     (λ c. search needs)
     returns
-    (λ c κs. here (c .before .before .before))
+    (λ c κs. let test = c .before .before .before in here test)
     (λ c. search needs)
     (λ c. search needs)
     (λ c. search needs)

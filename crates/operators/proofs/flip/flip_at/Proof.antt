@@ -30,9 +30,9 @@ flip-at-spec =
     tie.close
     (tie.spec
     (λ c κs. unit1 (c .before .before .pre))
-    (λ c κs. unit2 (c .before .before .before .before .before .pre))
+    (λ c κs. let start = c .before .before .before .before .before in unit2 (start .pre))
     (λ c κs. unit2 (c .before .before .pre))
-    (λ c κs. unit3 (c .before .before .before .before .before .pre))
+    (λ c κs. let start = c .before .before .before .before .before in unit3 (start .pre))
     (λ c κs. unit3 (c .before .before .pre))
     (λ c. search needs)
     (λ c. search needs)

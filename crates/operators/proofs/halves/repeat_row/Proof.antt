@@ -11,7 +11,7 @@ copy-row-requires : tie.Need-copy-row-requires
 copy-row-requires c κs = c .before .before .pre .lines (omega arith)
 
 returns : tie.Need-returns
-returns c = c .before .copy-row .ensures ∙ sym (cond-false _ _ (ne-eqb _ 3 (c .before .before .before .if1 .taken)))
+returns c = let test = c .before .before .before in c .before .copy-row .ensures ∙ sym (cond-false _ _ (ne-eqb _ 3 (test .if1 .taken)))
 
 returns-2 : tie.Need-returns-2
 returns-2 c = sym (cond-true _ _ (eq-eqb _ 3 (c .if1 .left)))

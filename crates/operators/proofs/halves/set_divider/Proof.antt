@@ -11,7 +11,7 @@ set-column-requires : tie.Need-set-column-requires
 set-column-requires c κs = c .before .before .pre .line (omega arith)
 
 returns : tie.Need-returns
-returns c = c .before .set-column .ensures ∙ sym (cond-false _ _ (ne-eqb _ 1 (c .before .before .before .if1 .taken)))
+returns c = let test = c .before .before .before in c .before .set-column .ensures ∙ sym (cond-false _ _ (ne-eqb _ 1 (test .if1 .taken)))
 
 returns-2 : tie.Need-returns-2
 returns-2 c = sym (cond-true _ _ (eq-eqb _ 1 (c .if1 .left)))

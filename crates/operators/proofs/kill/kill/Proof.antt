@@ -29,11 +29,11 @@ returns-2 c =
 
 returns-3 : tie.Need-returns-3
 returns-3 c =
-    let u = c .before .before .before .before .before .before .before .before in
+    let k = c .before .before .before .before in
+    let u = k .before .before .before .before in
     let f = u .before in
     rw (c .shrunk .ensures)
-    (kill-done (here (test f)) (sym (f .is-free .ensures) ∙ not-false _ (u .if2 .left))
-    (c .before .before .before .before .kill-at .ensures))
+    (kill-done (here (test f)) (sym (f .is-free .ensures) ∙ not-false _ (u .if2 .left)) (k .kill-at .ensures))
 
 pub kill-spec : {M : Type 1} → statement M
 kill-spec =
@@ -41,12 +41,12 @@ kill-spec =
     (tie.spec
     (λ c. search needs)
     returns
-    (λ c κs. here (c .before .before .before))
+    (λ c κs. let test = c .before .before .before in here test)
     (λ c. search needs)
     (λ c. search needs)
     (λ c. search needs)
     returns-2
-    (λ c κs. here (c .before .before .before .before .before .before .before .before))
+    (λ c κs. let free = c .before .before .before .before in here (test free))
     (λ c κs. search needs)
     (λ c. search needs)
     (λ c. search needs)

@@ -36,9 +36,9 @@ kill-at-spec =
     (tie.spec
     (λ c κs. unit-line (unit1 (c .before .before .pre)))
     (λ c κs. unit-line (unit1 (c .before .before .pre)))
-    (λ c κs. unit-line (unit2 (c .before .before .before .before .before .pre)))
+    (λ c κs. let start = c .before .before .before .before .before in unit-line (unit2 (start .pre)))
     (λ c κs. unit-line (unit2 (c .before .before .pre)))
-    (λ c κs. unit-line (unit3 (c .before .before .before .before .before .pre)))
+    (λ c κs. let start = c .before .before .before .before .before in unit-line (unit3 (start .pre)))
     (λ c κs. unit-line (unit3 (c .before .before .pre)))
     (λ c. search needs)
     returns

@@ -56,7 +56,9 @@ draw-requires c κs =
 
 -- whether they are
 below-is : (c : tie.After-draw) → let s = start c in c .draw .result ≡ allBelow (complex (entry s) (pred (s .args .dim)) .n) (faces s)
-below-is c = c .draw .ensures .is ∙ ap (λ n. allBelow n (faces (start c))) (cells (c .before .before .before))
+below-is c =
+    let call = c .before .before .before in
+    c .draw .ensures .is ∙ ap (λ n. allBelow n (faces (start c))) (cells call)
 
 no-cell : tie.Need-returns
 no-cell c =

@@ -7,10 +7,13 @@ use Rattle.operators.proofs.merge.is_proper_sum.Tie as tie
 returns : tie.Need-returns
 returns c =
     let u = c .before .before .before in
-    units-some _ (u .before .before .before .add-up .ensures) (u .are-units .ensures) (c .before .before .if1 .taken) (c .are-zero .ensures)
+    let sum = u .before .before .before in
+    units-some _ (sum .add-up .ensures) (u .are-units .ensures) (c .before .before .if1 .taken) (c .are-zero .ensures)
 
 returns-2 : tie.Need-returns-2
-returns-2 c = not-units _ (c .before .before .before .before .add-up .ensures) (c .before .are-units .ensures) (c .if1 .left)
+returns-2 c =
+    let sum = c .before .before .before .before in
+    not-units _ (sum .add-up .ensures) (c .before .are-units .ensures) (c .if1 .left)
 
 pub is-proper-sum-spec : {M : Type 1} → statement M
 is-proper-sum-spec =

@@ -53,7 +53,7 @@ merge-spec =
     (tie.spec
     (λ c. search needs)
     returns
-    (λ c κs. here (c .before .before .before))
+    (λ c κs. let test = c .before .before .before in here test)
     (λ c. search needs)
     (λ c. search needs)
     merge-at-requires

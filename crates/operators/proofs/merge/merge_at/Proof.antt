@@ -33,12 +33,12 @@ merge-at-spec =
     tie.close
     (tie.spec
     (λ c κs. apart1 (c .before .before .pre))
-    (λ c κs. above2 (c .before .before .before .before .before .pre))
+    (λ c κs. let start = c .before .before .before .before .before in above2 (start .pre))
     (λ c κs. unit-line (unit1 (c .before .before .pre .cell)))
-    (λ c κs. apart2 (c .before .before .before .before .before .pre))
-    (λ c κs. above3 (c .before .before .before .before .before .before .before .before .pre))
+    (λ c κs. let start = c .before .before .before .before .before in apart2 (start .pre))
+    (λ c κs. let start = c .before .before .before .before .before .before .before .before in above3 (start .pre))
     (λ c κs. unit-line (unit2 (c .before .before .pre .cell)))
-    (λ c κs. apart3 (c .before .before .before .before .before .pre))
+    (λ c κs. let start = c .before .before .before .before .before in apart3 (start .pre))
     (λ c. search needs)
     (λ c. search needs)
     returns

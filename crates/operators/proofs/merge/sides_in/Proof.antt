@@ -19,8 +19,11 @@ row-last-requires-2 c κs =
     let l = last-low _ (sym (t .before .is-between .ensures) ∙ not-false _ (t .if1 .left)) (c .row-last .ensures) in
     record { size = s .pre .size; inside = s .pre .inside; upto = omega arith }
 
+abbrev start : tie.After-row-last2 → tie.Start
+start second = second .before .before .before .before
+
 -- the two places
-places : (c : tie.After-row-last2) → let s = c .before .before .before .before in
+places : (c : tie.After-row-last2) → let s = start c in
     Places (entries (now (s .args .d))) (s .args .t) (c .row-last2 .result) (c .before .row-last .result)
 places c =
     let t = c .before .before in
@@ -32,7 +35,7 @@ places c =
 
 is-proper-sum-requires : tie.Need-is-proper-sum-requires
 is-proper-sum-requires c κs =
-    let s = c .before .before .before .before in
+    let s = start c in
     let m = places-met (places c) in
     record { size = s .pre .size; first = omega (arith, m .less, m .high); second = m .high; units = s .pre .units }
 

@@ -16,14 +16,18 @@ abbrev passed : tie.After-take-boundary → tie.Else1
 passed edge = edge .before .before .before .before
 
 take-part-requires : tie.Need-take-part-requires
-take-part-requires c κs = let (choice, fits) = c .before .before .before .pre in (choice, takeable fits)
+take-part-requires c κs =
+    let s = c .before .before .before in
+    let (choice, fits) = s .pre in
+    (choice, takeable fits)
 
 returns : tie.Need-returns
 returns c = wrong-part _ _ _ _ _ _ _ _ (c .before .before .take-part .ensures) (c .if1 .taken)
 
 take-boundary-requires : tie.Need-take-boundary-requires
 take-boundary-requires c κs =
-    let p = part (c .before .before .before) in
+    let test = c .before .before .before in
+    let p = part test in
     let (choice, fits) = start p .pre in
     (part-under fits (p .take-part .ensures), blank)
 
@@ -58,11 +62,12 @@ returns-3 c =
     let high = c .before in
     let mid = high .before .before .before in
     let low = mid .before .before .before .before in
-    let edge = low .before .before .before .before .before in
+    let test = low .before .before .before in
+    let edge = test .before .before in
     let p = passed edge in
     let (choice, fits) = start (part p) .pre in
     all-stored _ _ _ _ _ _ _ _ (part p .take-part .ensures) (p .if1 .left) (edge .take-boundary .ensures) (fits .least)
-    (low .before .before .before .if2 .left) (low .set-divider .ensures) (mid .halve .ensures) (high .repeat-row .ensures)
+    (test .if2 .left) (low .set-divider .ensures) (mid .halve .ensures) (high .repeat-row .ensures)
 
 pub divide-spec : {M : Type 1} → statement M
 divide-spec =

@@ -16,7 +16,10 @@ abbrev tested : tie.Else2 → tie.After-faces-below
 tested room = room .before .before
 
 faces-below-requires : tie.Need-faces-below-requires
-faces-below-requires c κs = let (held, form) = c .before .before .before .pre in list-form form
+faces-below-requires c κs =
+    let s = c .before .before .before in
+    let (held, form) = s .pre in
+    list-form form
 
 returns : tie.Need-returns
 returns c =

@@ -29,7 +29,8 @@ divide-requires-2 c κs =
 
 divide-requires-3 : tie.Need-divide-requires-3
 divide-requires-3 c κs =
-    let P = block (c .before .before .before) .pre in
+    let arm = c .before .before .before in
+    let P = block arm .pre in
     (P .choice, block-needs P (omega arith))
 
 returns : tie.Need-returns

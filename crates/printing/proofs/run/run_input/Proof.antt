@@ -56,5 +56,5 @@ ran c =
 pub run-input-spec : {M : Type 1} → statement M
 run-input-spec =
     tie.close (tie.spec (λ c κs. search needs) (λ c. search needs) (λ c. search needs) (λ c. search needs) not-taken
-    (λ c. inside (c .before .before .before)) (λ c. inside (c .before .before .before)) (λ c. search needs) (λ c κs. search needs)
+    (λ c. let test = c .before .before .before in inside test) (λ c. let test = c .before .before .before in inside test) (λ c. search needs) (λ c κs. search needs)
     (λ c κs. search needs) (λ c. search needs) (λ c. search needs) (λ c. search needs) ran)
