@@ -14,15 +14,19 @@ Inv-loop m k n out₀ at next₀ j₀ j-end out next j = Pieces (λ j. writeCell
 abbrev μ-loop : tie.MeasureT-loop
 μ-loop m k n out₀ at next₀ j₀ j-end out next j = n - j
 
+-- where the count was put
+abbrev count : tie.At-loop Inv-loop μ-loop → tie.After-put Inv-loop μ-loop
+count loop = loop .before .before .before
+
 put-cell-requires : tie.Need-put-cell-requires Inv-loop μ-loop
 unfolding cellTexts
 put-cell-requires c κs =
     let loop = c .before .before in
-    let count = loop .before .before .before in
-    let start = count .before .before .before in
+    let put = count loop in
+    let start = put .before .before .before in
     record {
       line = record { size = start .pre .columns .size; inside = omega arith };
-      room = pieces-fit (loop .loop .inv) (omega (arith, start .pre .room, count .put .ensures .place, count .put .ensures .size)) (omega arith);
+      room = pieces-fit (loop .loop .inv) (omega (arith, start .pre .room, put .put .ensures .place, put .put .ensures .size)) (omega arith);
     }
 
 loop-again : tie.Need-loop-again Inv-loop μ-loop
@@ -35,8 +39,7 @@ returns : tie.Need-returns Inv-loop μ-loop
 unfolding cellTexts
 returns c =
     let loop = c .before in
-    let count = loop .before .before .before in
-    two-pieces (count .put .ensures) (pieces-all (loop .loop .inv) (omega arith))
+    two-pieces (count loop .put .ensures) (pieces-all (loop .loop .inv) (omega arith))
 
 pub put-section-spec : {M : Type 1} → statement M
 put-section-spec =

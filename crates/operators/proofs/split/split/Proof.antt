@@ -8,12 +8,15 @@ use Rattle.operators.proofs.split.SplitAnswers.{no-such-cell, no-room, 
 use Rattle.operators.proofs.split.split.Statement.{statement}
 use Rattle.operators.proofs.split.split.Tie as tie
 
--- the moments: the start, the faces tested, room found
+-- the moments: the start, the faces tested, room found for what is then split
 abbrev start : tie.After-faces-below → tie.Start
 start tested = tested .before .before .before .before
 
 abbrev tested : tie.Else2 → tie.After-faces-below
 tested room = room .before .before
+
+abbrev room : tie.After-split-at → tie.Else2
+room done = done .before .before .before .before
 
 faces-below-requires : tie.Need-faces-below-requires
 faces-below-requires c κs =
@@ -35,42 +38,44 @@ returns-2 c =
 
 split-at-requires : tie.Need-split-at-requires
 split-at-requires c κs =
-    let room = c .before .before .before in
-    let f = tested room in
+    let r = c .before .before .before in
+    let f = tested r in
     let (held, form) = start f .pre in
-    prepared held form (f .faces-below .ensures) (room .before .if1 .left) (room .if2 .left)
+    prepared held form (f .faces-below .ensures) (r .before .if1 .left) (r .if2 .left)
 
 returns-3 : tie.Need-returns-3
 returns-3 c =
     let done = c .before .before .before .before in
-    let room = done .before .before .before .before in
-    let f = tested room in
+    let r = room done in
+    let f = tested r in
     let (held, form) = start f .pre in
-    split-answer-refused held form (f .faces-below .ensures) (room .before .if1 .left) (room .if2 .left) (done .split-at .ensures) (c .if3 .taken)
+    split-answer-refused held form (f .faces-below .ensures) (r .before .if1 .left) (r .if2 .left) (done .split-at .ensures) (c .if3 .taken)
 
 grown-requires : tie.Need-grown-requires
 grown-requires c κs =
-    let room = c .before .before .before .before .before .before .before .before in
-    let f = tested room in
+    let done = c .before .before .before .before in
+    let r = room done in
+    let f = tested r in
     let (held, form) = start f .pre in
-    (omega arith, room-below held form (f .faces-below .ensures) (room .before .if1 .left) (room .if2 .left))
+    (omega arith, room-below held form (f .faces-below .ensures) (r .before .if1 .left) (r .if2 .left))
 
 grown-requires-2 : tie.Need-grown-requires-2
 grown-requires-2 c κs =
-    let room = c .before .before .before .before .before .before .before .before .before in
-    let f = tested room in
+    let done = c .before .before .before .before .before in
+    let r = room done in
+    let f = tested r in
     let (held, form) = start f .pre in
-    let free = room-here held form (f .faces-below .ensures) (room .before .if1 .left) (room .if2 .left) in
+    let free = room-here held form (f .faces-below .ensures) (r .before .if1 .left) (r .if2 .left) in
     (omega arith, rw (c .grown .ensures) (still-room (start f .args .t1) _ (form .least) free))
 
 returns-4 : tie.Need-returns-4
 returns-4 c =
     let accepted = c .before .before in
     let done = accepted .before .before .before .before in
-    let room = done .before .before .before .before in
-    let f = tested room in
+    let r = room done in
+    let f = tested r in
     let (held, form) = start f .pre in
-    split-answer-accepted held form (f .faces-below .ensures) (room .before .if1 .left) (room .if2 .left) (done .split-at .ensures) (accepted .if3 .left)
+    split-answer-accepted held form (f .faces-below .ensures) (r .before .if1 .left) (r .if2 .left) (done .split-at .ensures) (accepted .if3 .left)
     (c .grown2 .ensures ∙ ap (λ x. grownAt x (start f .args .dim)) (c .before .grown .ensures))
 
 pub split-spec : {M : Type 1} → statement M
