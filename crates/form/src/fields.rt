@@ -1,6 +1,9 @@
 // Fields of one byte and of two.
 use rules::form::Fault;
 use rules::form::Field;
+use rules::refusals::BYTES_END;
+use rules::refusals::BYTES_LEFT;
+use rules::refusals::WRONG_FORM;
 ghost use mathlib.Core.Path.{_≡_};
 ghost use Rattle.rules.specs.Form.{byteAt, wordAt, faultNumber};
 
@@ -44,8 +47,8 @@ pub fn refusal_of(f: Fault) -> u8
     ensures { λ r. ⌜ r ≡ faultNumber f ⌝ }
 {
     match f {
-        Fault::Ends(_) => 3,
-        Fault::Wrong(_) => 4,
-        Fault::Left(_) => 14,
+        Fault::Ends(_) => BYTES_END,
+        Fault::Wrong(_) => WRONG_FORM,
+        Fault::Left(_) => BYTES_LEFT,
     }
 }
