@@ -70,7 +70,7 @@ fn sign_byte(z: i8) -> u8
 }
 
 // Face i with the entry z, nothing where z is 0, at a place, and the place after it.
-fn put_face(out: &mut [u8], at: usize, i: u8, z: i8) -> usize
+fn put_pair(out: &mut [u8], at: usize, i: u8, z: i8) -> usize
     requires { ⌜ Fits (now out) at (oneFace pair i z) ⌝ }
     ensures { λ next. ⌜ Put (now (out .entry)) at (oneFace pair i z) next (now (out .exit)) ⌝ }
 {
@@ -81,14 +81,14 @@ fn put_face(out: &mut [u8], at: usize, i: u8, z: i8) -> usize
 }
 
 // The faces of cell j at a place, rising, and the place after them.
-fn put_faces(m: &[i8], j: usize, out: &mut [u8], at: usize) -> usize
+fn put_pairs(m: &[i8], j: usize, out: &mut [u8], at: usize) -> usize
     requires { ⌜ ColumnFits (now m) j (now out) at (eachFace pair (column (now m) j)) ⌝ }
     ensures { λ next. ⌜ Put (now (out .entry)) at (eachFace pair (column (now (m .entry)) j)) next (now (out .exit)) ⌝ }
 {
     let s = SIDE * j;
     let mut next = at;
     for i in 0..SIDE {
-        next = put_face(out, next, i as u8, m[s + i]);
+        next = put_pair(out, next, i as u8, m[s + i]);
     }
     next
 }
@@ -108,7 +108,7 @@ fn put_list(m: &[i8], j: usize, out: &mut [u8], at: usize) -> usize
     requires { ⌜ ColumnFits (now m) j (now out) at (listText (column (now m) j)) ⌝ }
     ensures { λ next. ⌜ Put (now (out .entry)) at (listText (column (now (m .entry)) j)) next (now (out .exit)) ⌝ }
 {
-    let next = put_faces(m, j, out, at + 1);
+    let next = put_pairs(m, j, out, at + 1);
     out[at] = ((next - at) / 2) as u8;
     next
 }

@@ -7,7 +7,7 @@ use Rattle.mesh.proofs.CellTexts.{faces-between, faces-most}
 use Rattle.mesh.proofs.writer.put_list.Statement.{statement}
 use Rattle.mesh.proofs.writer.put_list.Tie as tie
 
-abbrev start : tie.After-put-faces → tie.Start
+abbrev start : tie.After-put-pairs → tie.Start
 start faces = faces .before .before .before
 
 cast-out : tie.Need-cast-out
@@ -15,14 +15,14 @@ cast-out c =
     let faces = c .before .before in
     let a = start faces .args in
     let v = column (a .m .now) (a .j) in
-    omega (arith, faces-between v (a .at) (faces .put-faces .ensures .place), faces-most v)
+    omega (arith, faces-between v (a .at) (faces .put-pairs .ensures .place), faces-most v)
 
 returns : tie.Need-returns
 returns c =
     let faces = c .before .before in
     let a = start faces .args in
     let v = column (a .m .now) (a .j) in
-    rw (← faces-between v (a .at) (faces .put-faces .ensures .place)) (byte-before _ (omega arith) (faces .put-faces .ensures))
+    rw (← faces-between v (a .at) (faces .put-pairs .ensures .place)) (byte-before _ (omega arith) (faces .put-pairs .ensures))
 
 pub put-list-spec : {M : Type 1} → statement M
 put-list-spec =
