@@ -13,6 +13,7 @@ static int8_t m1[MBYASOKA_SIZE], m2[MBYASOKA_SIZE], m3[MBYASOKA_SIZE];
 static int32_t chain[MBYASOKA_SIDE], carried[MBYASOKA_SIDE];
 static size_t mesh_length, script_length, number;
 static uint16_t ran;
+static uint32_t place;
 static int16_t euler;
 static uint8_t refusal;
 
@@ -25,21 +26,21 @@ static uint8_t refusal;
 #define LENT m1, sizeof m1, m2, sizeof m2, m3, sizeof m3
 
 static void *check(void *x) { refusal = mbyasoka_check(counts, LENT); return x; }
-static void *read_mesh(void *x) { refusal = mbyasoka_read_mesh(counts, LENT, mesh, mesh_length, &number); return x; }
+static void *read_mesh(void *x) { refusal = mbyasoka_read_mesh(counts, LENT, mesh, mesh_length, &number, &place); return x; }
 static void *write_mesh(void *x) { refusal = mbyasoka_write_mesh(counts, LENT, out, sizeof out, &number); return x; }
 static void *euler_number(void *x) { refusal = mbyasoka_euler(counts, LENT, &euler); return x; }
-static void *run_script(void *x) { refusal = mbyasoka_run_script(counts, LENT, script, script_length, &ran); return x; }
+static void *run_script(void *x) { refusal = mbyasoka_run_script(counts, LENT, script, script_length, &ran, &place); return x; }
 static void *apply_split(void *x)
 {
     static const uint8_t split[] = {0x33, 0, 1, 0};
-    refusal = mbyasoka_apply_operator(counts, LENT, split, sizeof split);
+    refusal = mbyasoka_apply_operator(counts, LENT, split, sizeof split, &place);
     return x;
 }
 static void *boundary(void *x) { refusal = mbyasoka_boundary(counts, LENT, 2, chain, 96, carried, 96); return x; }
 static void *carry(void *x)
 {
     static const uint8_t split[] = {0x33, 0, 1, 0};
-    refusal = mbyasoka_carry(counts, LENT, split, sizeof split, 3, chain, 96, carried, 96);
+    refusal = mbyasoka_carry(counts, LENT, split, sizeof split, 3, chain, 96, carried, 96, &place);
     return x;
 }
 

@@ -30,7 +30,7 @@ extern "C" {
 #endif
 
 /* Raised by one with each change that a caller can see: of a call and its arguments, the struct, an answer, a refusal, or the bytes. */
-#define MBYASOKA_VERSION 1
+#define MBYASOKA_VERSION 2
 
 enum {
     MBYASOKA_SIDE = 96,                 /* most cells of a dimension; coefficients of a chain */
@@ -43,27 +43,59 @@ enum {
     MBYASOKA_CARRY_LIMIT = 100000000    /* largest coefficient of a chain that is carried, plus or minus */
 };
 
+/* mbyasoka_refusal_text says what each means. */
 enum {
     MBYASOKA_ACCEPTED = 0,
     MBYASOKA_WRONG_LENGTH = 1,   /* a matrix is not 9,216 or a chain not 96 long; a script is over 24,576 bytes */
-    MBYASOKA_NOT_GOOD = 2,       /* the lent pattern is not good */
-    MBYASOKA_BYTES_END = 3,      /* the bytes end inside a field */
+    MBYASOKA_NOT_GOOD = 2,
+    MBYASOKA_BYTES_END = 3,
     MBYASOKA_WRONG_FORM = 4,     /* a count over 96, over 1,024 operators, base count not 4, unknown code, sign not 1 or 2, list not
                                     rising, or a chain dimension that is not offered */
-    MBYASOKA_NO_SUCH_CELL = 5,   /* a number is not below its count */
-    MBYASOKA_NO_ROOM = 6,        /* a count that must grow is 96 */
-    MBYASOKA_NOT_CLOSED = 7,     /* make: no faces, boundary not zero, or tail equal to head */
-    MBYASOKA_IN_USE = 8,         /* kill: another cell has this one as a face */
-    MBYASOKA_WRONG_PART = 9,     /* split: no face listed, all of them, or one that the cell does not have */
-    MBYASOKA_WRONG_DIVIDER = 10, /* split: the dividing cell would be no seam or no panel */
-    MBYASOKA_NOT_BETWEEN = 11,   /* merge: the cell does not lie between two others with opposite signs */
-    MBYASOKA_WRONG_SUM = 12,     /* merge: the sum leaves -1 to 1, or is all 0 */
+    MBYASOKA_NO_SUCH_CELL = 5,
+    MBYASOKA_NO_ROOM = 6,
+    MBYASOKA_NOT_CLOSED = 7,
+    MBYASOKA_IN_USE = 8,
+    MBYASOKA_WRONG_PART = 9,
+    MBYASOKA_WRONG_DIVIDER = 10,
+    MBYASOKA_NOT_BETWEEN = 11,
+    MBYASOKA_WRONG_SUM = 12,
     MBYASOKA_STALE = 13,         /* the script's base counts differ from the pattern's */
-    MBYASOKA_BYTES_LEFT = 14,    /* bytes follow the last operator */
-    MBYASOKA_SHORT_OUTPUT = 15,  /* the output buffer is too short for the mesh */
-    MBYASOKA_WRONG_CHAIN = 16,   /* a coefficient is out of limits, or not 0 at or past the count */
-    MBYASOKA_NOT_CARRIED = 17    /* kill or merge given to carrying */
+    MBYASOKA_BYTES_LEFT = 14,
+    MBYASOKA_SHORT_OUTPUT = 15,
+    MBYASOKA_WRONG_CHAIN = 16,
+    MBYASOKA_NOT_CARRIED = 17
 };
+
+/* What an answer means, for people to read; of any number. Where the answer has a place, " at byte " and the place may follow. */
+static inline const char *mbyasoka_refusal_text(uint8_t refusal)
+{
+    switch (refusal) {
+    case MBYASOKA_ACCEPTED: return "accepted";
+    case MBYASOKA_WRONG_LENGTH: return "a lent matrix or chain has a wrong length, or the script is too long";
+    case MBYASOKA_NOT_GOOD: return "the lent pattern is not good";
+    case MBYASOKA_BYTES_END: return "the bytes end too early";
+    case MBYASOKA_WRONG_FORM: return "an impossible value was given";
+    case MBYASOKA_NO_SUCH_CELL: return "a cell is named that is not there";
+    case MBYASOKA_NO_ROOM: return "there is no room for a new cell, 96 of a dimension are the most";
+    case MBYASOKA_NOT_CLOSED: return "a panel or block has no faces or does not sew shut, or a seam ends where it begins";
+    case MBYASOKA_IN_USE: return "a cell that is to be killed is a face of another";
+    case MBYASOKA_WRONG_PART: return "a split lists no face of the cell, all of them, or one that it does not have";
+    case MBYASOKA_WRONG_DIVIDER: return "the dividing cell of a split would be no seam or no panel";
+    case MBYASOKA_NOT_BETWEEN: return "a merge is at a cell that does not lie between two others with opposite signs";
+    case MBYASOKA_WRONG_SUM: return "the sum of a merge leaves -1 to +1, or is all 0";
+    case MBYASOKA_STALE: return "the script was written for another state of the pattern";
+    case MBYASOKA_BYTES_LEFT: return "there are bytes left over";
+    case MBYASOKA_SHORT_OUTPUT: return "the output buffer is too short for the mesh";
+    case MBYASOKA_WRONG_CHAIN: return "a coefficient of the chain is out of limits, or not 0 at or past the count of its cells";
+    case MBYASOKA_NOT_CARRIED: return "no chain is carried through a kill or a merge";
+    default: return "no answer of this version has this number";
+    }
+}
+
+/* Where the bytes went wrong. The calls that read a mesh, a script or an operator write to *place, whatever they answer. It counts from
+ * 0, the first byte of the mesh, script or operator: for 3 it is the length of the bytes, for 4 the first byte of the faulty field, for
+ * 14 the first byte left over. With any other answer, and with a 4 for a chain's dimension, it is this number. */
+#define MBYASOKA_NO_PLACE ((uint32_t)4294967295u)
 
 /* The calls on lent lists. Most callers need only those on mbyasoka_pattern, at the end. */
 
@@ -71,12 +103,12 @@ enum {
 uint8_t mbyasoka_check(const uint8_t counts[4],
                        const int8_t *m1, size_t m1_length, const int8_t *m2, size_t m2_length, const int8_t *m3, size_t m3_length);
 
-/* Reads a mesh from the front of the bytes. Out: the counts, every byte of the matrices, and how many bytes were used.
+/* Reads a mesh from the front of the bytes. Out: the counts, every byte of the matrices, how many bytes were used, and the place.
  * Refusals: 1; then from the front, a section's count when it is reached, before its cells (3, 4), and each cell by itself: its form
  * (3, 4), then 5, then 7. A refusal answers counts 0 and used 0; after 1 the matrices are unchanged, after another all three are zero. */
 uint8_t mbyasoka_read_mesh(uint8_t counts[4],
                            int8_t *m1, size_t m1_length, int8_t *m2, size_t m2_length, int8_t *m3, size_t m3_length,
-                           const uint8_t *bytes, size_t bytes_length, size_t *used);
+                           const uint8_t *bytes, size_t bytes_length, size_t *used, uint32_t *place);
 
 /* Writes the pattern as a mesh. Out: the first `*written` bytes of out, and no other. Refusals: 1, 2, 15; a refusal answers written 0
  * and touches no byte of out. MBYASOKA_MESH_BYTES are enough for every pattern. */
@@ -89,22 +121,22 @@ uint8_t mbyasoka_euler(const uint8_t counts[4],
                        const int8_t *m1, size_t m1_length, const int8_t *m2, size_t m2_length, const int8_t *m3, size_t m3_length,
                        int16_t *number);
 
-/* One operator, of which these are the bytes. In and out: counts and matrices. Refusals: 1, 2, the first of 3 and 4 in byte order, 14,
- * 5, 6, 7 to 12; a refusal changes no count and no byte. */
+/* One operator, of which these are the bytes. In and out: counts and matrices. Out: the place. Refusals: 1, 2, the first of 3 and 4 in
+ * byte order, 14, 5, 6, 7 to 12; a refusal changes no count and no byte. */
 uint8_t mbyasoka_apply_operator(uint8_t counts[4],
                                 int8_t *m1, size_t m1_length, int8_t *m2, size_t m2_length, int8_t *m3, size_t m3_length,
-                                const uint8_t *bytes, size_t bytes_length);
+                                const uint8_t *bytes, size_t bytes_length, uint32_t *place);
 
-/* A script. In and out: counts and matrices. Out: how many operators were accepted. Refusals: 1, 2, the first of 3 and 4 in byte order,
- * 14, 13: then nothing runs, *ran is 0 and no count and no byte changes. Otherwise operators run in order up to the first that is
- * refused, by 5, 6 or 7 to 12; that one changes nothing.
+/* A script. In and out: counts and matrices. Out: how many operators were accepted, and the place. Refusals: 1, 2, the first of 3 and 4
+ * in byte order, 14, 13: then nothing runs, *ran is 0 and no count and no byte changes. Otherwise operators run in order up to the first
+ * that is refused, by 5, 6 or 7 to 12; that one changes nothing.
  *
  * WARNING: after a refusal by 5 to 12 the first *ran operators HAVE CHANGED the pattern, and nothing takes them back. What is left is a
  * good pattern, but neither the one lent nor the one meant. Whoever wants all or nothing keeps a copy of the counts and the matrices, or
  * writes the mesh, before the call. */
 uint8_t mbyasoka_run_script(uint8_t counts[4],
                             int8_t *m1, size_t m1_length, int8_t *m2, size_t m2_length, int8_t *m3, size_t m3_length,
-                            const uint8_t *bytes, size_t bytes_length, uint16_t *ran);
+                            const uint8_t *bytes, size_t bytes_length, uint16_t *ran, uint32_t *place);
 
 /* The boundary of a chain of cells of a dimension, 1 to 3. In: 96 coefficients within ±MBYASOKA_BOUNDARY_LIMIT, 0 at and past the count.
  * Out: 96 coefficients, within 96 times that. Refusals: 1, 2, 4, 16; a refusal leaves out unchanged. */
@@ -114,13 +146,15 @@ uint8_t mbyasoka_boundary(const uint8_t counts[4],
 
 /* A chain of cells of a dimension, 0 to 3, carried through one make, split or flip, of which these are the bytes; the pattern stays as
  * it is. In: 96 coefficients within ±MBYASOKA_CARRY_LIMIT, 0 at and past the count. Out: 96 coefficients: the new cell of a make and the
- * dividing cell of a split get 0, the other new cell of a split gets what the split one has, and a flipped cell's changes its sign.
+ * dividing cell of a split get 0, the other new cell of a split gets what the split one has, and a flipped cell's changes its sign; and
+ * the place.
  * Refusals: 1, 2, 4 for the dimension, the first of 3 and 4 in byte order, 14, 17, 5, 6, 7, 9, 10, and last 16; a refusal leaves out
  * unchanged. */
 uint8_t mbyasoka_carry(const uint8_t counts[4],
                        const int8_t *m1, size_t m1_length, const int8_t *m2, size_t m2_length, const int8_t *m3, size_t m3_length,
                        const uint8_t *bytes, size_t bytes_length,
-                       uint8_t dimension, const int32_t *chain, size_t chain_length, int32_t *out, size_t out_length);
+                       uint8_t dimension, const int32_t *chain, size_t chain_length, int32_t *out, size_t out_length,
+                       uint32_t *place);
 
 /* A whole pattern. `= {0}` (in C++ `= {}`) makes the empty one, which is good, and `=` a copy. Callers that keep to it and to the calls
  * below change no line when a later version stores more beside the matrices. It takes 27 KiB: where stacks are small make it static. */
@@ -140,9 +174,10 @@ static inline uint8_t mbyasoka_pattern_check(const mbyasoka_pattern *p)
 }
 
 /* A refused mesh leaves the empty pattern. */
-static inline uint8_t mbyasoka_pattern_read(mbyasoka_pattern *p, const uint8_t *bytes, size_t bytes_length, size_t *used)
+static inline uint8_t mbyasoka_pattern_read(mbyasoka_pattern *p, const uint8_t *bytes, size_t bytes_length, size_t *used,
+                                            uint32_t *place)
 {
-    return mbyasoka_read_mesh(MBYASOKA_LENT_(p), bytes, bytes_length, used);
+    return mbyasoka_read_mesh(MBYASOKA_LENT_(p), bytes, bytes_length, used, place);
 }
 
 static inline uint8_t mbyasoka_pattern_write(const mbyasoka_pattern *p, uint8_t *out, size_t out_length, size_t *written)
@@ -155,15 +190,16 @@ static inline uint8_t mbyasoka_pattern_euler(const mbyasoka_pattern *p, int16_t 
     return mbyasoka_euler(MBYASOKA_LENT_(p), number);
 }
 
-static inline uint8_t mbyasoka_pattern_apply(mbyasoka_pattern *p, const uint8_t *bytes, size_t bytes_length)
+static inline uint8_t mbyasoka_pattern_apply(mbyasoka_pattern *p, const uint8_t *bytes, size_t bytes_length, uint32_t *place)
 {
-    return mbyasoka_apply_operator(MBYASOKA_LENT_(p), bytes, bytes_length);
+    return mbyasoka_apply_operator(MBYASOKA_LENT_(p), bytes, bytes_length, place);
 }
 
 /* WARNING: as at mbyasoka_run_script, a refusal by 5 to 12 HAS CHANGED the pattern. All or nothing: copy it before, by `=`. */
-static inline uint8_t mbyasoka_pattern_run(mbyasoka_pattern *p, const uint8_t *bytes, size_t bytes_length, uint16_t *ran)
+static inline uint8_t mbyasoka_pattern_run(mbyasoka_pattern *p, const uint8_t *bytes, size_t bytes_length, uint16_t *ran,
+                                           uint32_t *place)
 {
-    return mbyasoka_run_script(MBYASOKA_LENT_(p), bytes, bytes_length, ran);
+    return mbyasoka_run_script(MBYASOKA_LENT_(p), bytes, bytes_length, ran, place);
 }
 
 static inline uint8_t mbyasoka_pattern_boundary(const mbyasoka_pattern *p, uint8_t dimension,
@@ -173,9 +209,9 @@ static inline uint8_t mbyasoka_pattern_boundary(const mbyasoka_pattern *p, uint8
 }
 
 static inline uint8_t mbyasoka_pattern_carry(const mbyasoka_pattern *p, const uint8_t *bytes, size_t bytes_length, uint8_t dimension,
-                                             const int32_t chain[MBYASOKA_SIDE], int32_t out[MBYASOKA_SIDE])
+                                             const int32_t chain[MBYASOKA_SIDE], int32_t out[MBYASOKA_SIDE], uint32_t *place)
 {
-    return mbyasoka_carry(MBYASOKA_LENT_(p), bytes, bytes_length, dimension, chain, MBYASOKA_SIDE, out, MBYASOKA_SIDE);
+    return mbyasoka_carry(MBYASOKA_LENT_(p), bytes, bytes_length, dimension, chain, MBYASOKA_SIDE, out, MBYASOKA_SIDE, place);
 }
 
 #undef MBYASOKA_LENT_

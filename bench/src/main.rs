@@ -4,10 +4,10 @@ mod plain;
 
 use inputs::Timed;
 use mbyasoka::{Pattern as Engine, Run, SIZE};
-use plain::chains;
 use plain::mesh::{read_mesh, write_mesh};
 use plain::pattern::{check, check_nested, Pattern as Plain};
 use plain::script::{apply_operator, euler, run_script};
+use plain::{chains, NO_PLACE};
 use std::hint::black_box;
 use std::time::Instant;
 
@@ -40,7 +40,7 @@ fn same(e: &Engine, p: &Plain) -> bool {
 fn both(mesh: &[u8]) -> (Box<Engine>, Box<Plain>) {
     let (mut e, mut p) = (Box::<Engine>::default(), Box::new(Plain::empty()));
     assert_eq!(e.read(mesh), Ok(mesh.len()));
-    assert_eq!(read_mesh(mesh, &mut p), (mesh.len(), 0));
+    assert_eq!(read_mesh(mesh, &mut p), (mesh.len(), 0, NO_PLACE));
     assert!(same(&e, &p));
     (e, p)
 }
@@ -76,7 +76,7 @@ fn full_script(t: &Timed) {
     let (e0, p0) = both(&t.mesh);
     let (mut e, mut p) = (e0.clone(), p0.clone());
     assert_eq!(e.run(&t.script), Run { ran: 1024, refusal: None }, "{}", t.name);
-    assert_eq!(run_script(&mut p, &t.script, false), (1024, 0));
+    assert_eq!(run_script(&mut p, &t.script, false), (1024, 0, NO_PLACE));
     assert!(same(&e, &p));
     let run_plain = |p: &mut Plain, again: bool| {
         p.clone_from(&p0);

@@ -50,6 +50,11 @@ fn differing(matrices: &[Twice<i8>; 3]) -> Option<String> {
     named.into_iter().find_map(|(name, matrix)| matrix.difference(name))
 }
 
+/// Whether an answer is about the form of the bytes.
+fn of_form(number: u8) -> bool {
+    matches!(number, 3 | 4 | 14)
+}
+
 impl Comparison {
     /// The part of the run that these calls are, named in the report of a difference.
     pub fn new(part: String) -> Self {
@@ -115,6 +120,7 @@ impl Comparison {
         let lent = differing(&matrices).or_else(|| meshes.difference("bytes"));
         self.judge(Call::ReadMesh, [first, second], lent, || format!("  bytes {}\n  over {}", hex(bytes), pattern_text(over)));
         self.coverage.answer(Call::ReadMesh, first.0);
+        self.coverage.place(Call::ReadMesh, first.0, first.3, of_form(first.0).then(|| second::mesh_fault(bytes)));
     }
 
     pub fn write_mesh(&mut self, pattern: &Pattern, out: &[u8]) {
@@ -134,11 +140,12 @@ impl Comparison {
         let (mut matrices, mut operators) = (twice(pattern), Twice::of(bytes));
         let [ours, [m1, m2, m3]] = lend(&mut matrices);
         let [operator, same] = operators.lent();
-        let first = engine::apply_operator(pattern.counts, ours, operator);
+        let first = engine::apply_operator(pattern.counts, ours, operator, self.rubbish.next());
         let second = second::apply_operator(pattern.counts, m1, m2, m3, same);
         let lent = differing(&matrices).or_else(|| operators.difference("operator"));
         self.judge(Call::ApplyOperator, [first, second], lent, || format!("{}  operator {}\n", pattern_text(pattern), hex(bytes)));
         self.coverage.answer(Call::ApplyOperator, first.0);
+        self.coverage.place(Call::ApplyOperator, first.0, first.2, of_form(first.0).then(|| second::operator_fault(bytes)));
         if let Some(&code) = bytes.first() {
             self.coverage.operator(code, first.0);
         }
@@ -155,6 +162,7 @@ impl Comparison {
         let lent = differing(&matrices).or_else(|| scripts.difference("script"));
         self.judge(Call::RunScript, [first, second], lent, || format!("{}  script {}\n", pattern_text(pattern), hex(bytes)));
         self.coverage.answer(Call::RunScript, first.0);
+        self.coverage.place(Call::RunScript, first.0, first.3, of_form(first.0).then(|| second::script_fault(bytes)));
         self.coverage.script(bytes, first.2, first.0);
         Pattern { counts: first.1, matrices: matrices.map(|matrix| matrix.left().to_vec()) }
     }
@@ -176,14 +184,18 @@ impl Comparison {
         let (mut chains, mut outs) = (Twice::of(chain.coefficients), Twice::of(chain.out));
         let [ours, [m1, m2, m3]] = lend(&mut matrices);
         let ([operator, same_operator], [lent, same], [own, theirs]) = (operators.lent(), chains.lent(), outs.lent());
-        let first = engine::carry(pattern.counts, ours, operator, chain.dimension, lent, own);
-        let second = second::carry(pattern.counts, m1, m2, m3, same_operator, chain.dimension, same, theirs);
+        let first = engine::carry(pattern.counts, ours, operator, chain.dimension, lent, own, self.rubbish.next());
+        let (refusal, place) = second::carry(pattern.counts, m1, m2, m3, same_operator, chain.dimension, same, theirs);
+        let second = (refusal, pattern.counts, place);
         let lent = differing(&matrices).or_else(|| operators.difference("operator"));
         let lent = lent.or_else(|| chains.difference("chain")).or_else(|| outs.difference("out"));
-        self.judge(Call::Carry, [first, (second, pattern.counts)], lent, || {
+        self.judge(Call::Carry, [first, second], lent, || {
             format!("{}  operator {}\n{}", pattern_text(pattern), hex(bytes), chain_text(chain))
         });
         self.coverage.answer(Call::Carry, first.0);
+        // A dimension that is not offered is a 4 as well, before the form is looked at.
+        let form = of_form(first.0) && chain.dimension < 4;
+        self.coverage.place(Call::Carry, first.0, first.2, form.then(|| second::operator_fault(bytes)));
         self.coverage.carried(bytes, chain.dimension, chain.coefficients, first.0);
     }
 }

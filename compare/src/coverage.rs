@@ -1,7 +1,11 @@
-//! Which numbers were answered, which operators were accepted or refused, which chains were accepted, and which damages found.
+//! Which numbers and places were answered, which operators were accepted or refused, which chains were accepted, and which damages found.
 
 use crate::damaged::WAYS;
 use crate::operators::CODES;
+use crate::places::Places;
+use crate::tables::{row, table};
+use second::Fault;
+use std::collections::BTreeSet;
 
 #[derive(Clone, Copy)]
 pub enum Call {
@@ -62,14 +66,26 @@ pub struct Coverage {
     carried: [[u64; 4]; 17],
     bounded: [u64; 4],
     damaged: [[u64; 3]; WAYS.len()],
-    strange: Vec<String>,
+    places: Places,
+    strange: BTreeSet<String>,
 }
 
 impl Coverage {
     pub fn answer(&mut self, call: Call, number: u8) {
         match self.answered[call as usize].get_mut(usize::from(number)) {
             Some(count) => *count += 1,
-            None => self.strange.push(format!("{} answered {number}", call_name(call))),
+            None => self.strange(format!("{} answered {number}", call_name(call))),
+        }
+    }
+
+    fn strange(&mut self, text: String) {
+        self.strange.insert(text);
+    }
+
+    /// The place of an answer. Where that is about the form of the bytes, `form` is the fault that the second program finds in them.
+    pub fn place(&mut self, call: Call, number: u8, place: u32, form: Option<Option<Fault>>) {
+        if !self.places.answer(call, number, place, form) {
+            self.strange(format!("{} answered {number} with a wrong place", call_name(call)));
         }
     }
 
@@ -123,7 +139,7 @@ impl Coverage {
     fn counts(&mut self) -> impl Iterator<Item = &mut u64> {
         let numbers = self.answered.iter_mut().chain(&mut self.meant).flatten();
         let chains = self.carried.iter_mut().chain([&mut self.bounded]).flatten();
-        numbers.chain(chains).chain(self.damaged.iter_mut().flatten())
+        numbers.chain(chains).chain(self.damaged.iter_mut().flatten()).chain(self.places.counts())
     }
 
     pub fn add(&mut self, mut other: Coverage) {
@@ -146,6 +162,7 @@ impl Coverage {
             table("operator", "answered", (0..1).chain(5..13), operators.collect()),
             table("chain of dim.", "accepted a chain of dimension", 0..4, std::iter::once(bounded).chain(carried).collect()),
             table("damage", "met refusal", 2..3, damaged.collect()),
+            table("place", "was the place of", [3, 4, 14].into_iter(), self.places.rows()),
         ];
         self.strange.iter().cloned().chain(tables.into_iter().flatten()).collect()
     }
@@ -163,53 +180,11 @@ fn length(bytes: &[u8]) -> usize {
     }
 }
 
-/// A row of a table: its name, the columns that must be reached, no other being allowed, and the counts in all columns.
-struct Row<'a> {
-    name: String,
-    allowed: &'a [usize],
-    counts: &'a [u64],
-}
-
-fn row<'a>(name: &str, allowed: &'a [usize], counts: &'a [u64]) -> Row<'a> {
-    Row { name: name.to_string(), allowed, counts }
-}
-
-impl Row<'_> {
-    fn faults(&self, verb: &str) -> Vec<String> {
-        let mut faults = Vec::new();
-        for (number, &count) in self.counts.iter().enumerate() {
-            match (self.allowed.contains(&number), count) {
-                (true, 0) => faults.push(format!("{} never {verb} {number}", self.name)),
-                (false, 1..) => faults.push(format!("{} {verb} {number}, {count} times", self.name)),
-                _ => {}
-            }
-        }
-        faults
-    }
-}
-
-/// Prints some columns of the rows and answers the faults of all.
-fn table(heading: &str, verb: &str, columns: impl Iterator<Item = usize> + Clone, rows: Vec<Row>) -> Vec<String> {
-    line(heading, columns.clone().map(|number| number.to_string()));
-    for row in &rows {
-        let shown = columns.clone().map(|number| match row.counts[number] {
-            0 => ".".to_string(),
-            count => count.to_string(),
-        });
-        line(&row.name, shown);
-    }
-    println!();
-    rows.iter().flat_map(|row| row.faults(verb)).collect()
-}
-
-fn line(first: &str, words: impl Iterator<Item = String>) {
-    let words: Vec<String> = words.map(|word| format!("{word:>6}")).collect();
-    println!("{first:<14} {}", words.join(" "));
-}
-
 #[cfg(test)]
 mod tests {
     use super::*;
+    use crate::places;
+    use second::Field;
 
     fn missed(coverage: &Coverage, fault: &str) -> bool {
         coverage.print().iter().any(|own| own == fault)
@@ -220,7 +195,8 @@ mod tests {
         let faults = Coverage::default().print();
         let numbers = CALLS.iter().map(|call| call.1.len()).chain(CODES.map(|code| meanings(code).len()));
         let carried = 4 * CODES.iter().filter(|&&code| carries(code)).count();
-        assert_eq!(faults.len(), numbers.sum::<usize>() + carried + 3 + WAYS.len());
+        let placed: usize = places::CALLS.map(places::kinds).iter().sum();
+        assert_eq!(faults.len(), numbers.sum::<usize>() + carried + 3 + WAYS.len() + placed);
     }
 
     #[test]
@@ -254,6 +230,21 @@ mod tests {
     }
 
     #[test]
+    fn a_place_that_may_not_be_answered_is_a_fault() {
+        let mut coverage = Coverage::default();
+        coverage.place(Call::RunScript, 13, 5, None);
+        assert!(missed(&coverage, "run_script answered 13 with a wrong place"));
+        for (number, field) in [(4, Field::Code), (4, Field::CellNumber), (14, Field::Sign), (4, Field::Sign)] {
+            coverage.place(Call::ReadMesh, number, 5, Some(Some(Fault { number, place: 5, field })));
+        }
+        for fault in ["code was the place of 4", "cell number was the place of 4", "sign was the place of 14"] {
+            assert!(missed(&coverage, &format!("read_mesh: {fault}, 1 times")), "{fault}");
+        }
+        assert!(missed(&coverage, "read_mesh: sign never was the place of 3"));
+        assert!(!missed(&coverage, "read_mesh: sign never was the place of 4"));
+    }
+
+    #[test]
     fn only_a_pattern_that_is_not_good_counts_as_spoiled() {
         let mut coverage = Coverage::default();
         coverage.damaged(0, 0);
@@ -268,10 +259,14 @@ mod tests {
         first.damaged(3, 2);
         second.damaged(4, 2);
         second.bounded(1, &[1], 0);
+        second.place(Call::Carry, 14, 2, Some(Some(Fault { number: 14, place: 2, field: Field::LeftOver })));
         first.add(second);
-        for fault in
-            ["entry outside never met refusal 2", "seam: no tail never met refusal 2", "boundary never accepted a chain of dimension 1"]
-        {
+        for fault in [
+            "entry outside never met refusal 2",
+            "seam: no tail never met refusal 2",
+            "boundary never accepted a chain of dimension 1",
+            "carry: left over never was the place of 14",
+        ] {
             assert!(!missed(&first, fault), "{fault}");
         }
     }

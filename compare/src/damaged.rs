@@ -31,6 +31,22 @@ pub fn bytes(random: &mut Random, bytes: &[u8]) -> Vec<u8> {
     changed
 }
 
+/// The bytes cut at every place, with every byte replaced by each of a few values, and with one
+/// more.
+pub fn variants(bytes: &[u8]) -> Vec<Vec<u8>> {
+    let mut variants: Vec<Vec<u8>> = (0..=bytes.len()).map(|end| bytes[..end].to_vec()).collect();
+    for value in VALUES {
+        for at in 0..=bytes.len() {
+            let mut changed = bytes.to_vec();
+            changed.truncate(at);
+            changed.push(value);
+            changed.extend(bytes.iter().skip(at + 1));
+            variants.push(changed);
+        }
+    }
+    variants
+}
+
 /// The ways of `spoiled`.
 pub const WAYS: [&str; 14] = [
     "count over 96",

@@ -1,11 +1,11 @@
 //! Whole inputs for the program `pattern`: a mesh followed directly by a script.
 
-use crate::damaged;
+use crate::damaged::{self, variants};
 use crate::meshes::{self, parallel, simplex};
 use crate::patterns::Pattern;
 use crate::random::Random;
 use crate::scripts::{self, of_length, script, OPERATOR_LIMIT, SCRIPT_LIMIT};
-use second::INPUT_LIMIT;
+use second::{mesh_fault, script_fault, Fault, INPUT_LIMIT};
 
 /// Inputs of mixed kinds on meshes of at most `longest` bytes.
 pub fn mixed(random: &mut Random, inputs: usize, longest: usize) -> Vec<Vec<u8>> {
@@ -35,6 +35,26 @@ fn one(random: &mut Random, mesh: &[u8], kind: usize) -> Vec<u8> {
     [mesh, script].concat()
 }
 
+/// An input for each kind of fault that the form of a mesh or of a script can have.
+pub fn faulty() -> Vec<Vec<u8>> {
+    let mesh = simplex(4);
+    let script = scripts::every_operator(&mut Random::new(5), &Pattern::from_mesh(&mesh));
+    let scripts = of_each_kind(&script, script_fault).into_iter().map(|script| [&mesh[..], &script].concat());
+    of_each_kind(&mesh, mesh_fault).into_iter().chain(scripts).collect()
+}
+
+/// The variants in which a kind of fault is found first, from the last, whose places are the highest.
+fn of_each_kind(bytes: &[u8], fault: fn(&[u8]) -> Option<Fault>) -> Vec<Vec<u8>> {
+    let mut kinds = Vec::new();
+    let mut is_new = |bytes: &Vec<u8>| {
+        let kind = fault(bytes).map(|fault| (fault.field, fault.number));
+        let new = kind.is_some() && !kinds.contains(&kind);
+        kinds.push(kind);
+        new
+    };
+    variants(bytes).into_iter().rev().filter(|bytes| is_new(bytes)).collect()
+}
+
 fn flips(counts: [u8; 4]) -> Vec<u8> {
     let flip = |at: usize| vec![0x51 + (at % 3) as u8, (at * 7 % usize::from(counts[1])) as u8];
     script(counts, &(0..OPERATOR_LIMIT).map(flip).collect::<Vec<_>>())
@@ -52,7 +72,7 @@ pub fn few_at_limits() -> Vec<Vec<u8>> {
     ]
 }
 
-/// Every limit of the program: lengths of input, script and listing.
+/// Every limit of the program: lengths of input, script and listing, and the highest places.
 pub fn all_at_limits() -> Vec<Vec<u8>> {
     let largest = parallel([96; 4], 96);
     let loose = parallel([95, 96, 95, 0], 96);
@@ -69,6 +89,21 @@ pub fn all_at_limits() -> Vec<Vec<u8>> {
         inputs.push(long);
     }
     inputs.extend([largest.len() - 1, largest.len() / 2].map(|end| largest[..end].to_vec()));
+    // A wrong sign at the end of the longest mesh, and a byte left over at the end of the longest script.
+    inputs.push([&largest[..largest.len() - 1], &[3]].concat());
+    inputs.push([loose, of_length(SCRIPT_LIMIT - 1), vec![0]].concat());
     inputs.push([largest, script([96; 4], &[])].concat());
     inputs
+}
+
+#[cfg(test)]
+mod tests {
+    use super::*;
+    use crate::coverage::Call;
+    use crate::places::kinds;
+
+    #[test]
+    fn the_form_is_at_fault_in_every_way() {
+        assert_eq!(faulty().len(), kinds(Call::ReadMesh) + kinds(Call::RunScript));
+    }
 }

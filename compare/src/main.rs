@@ -16,11 +16,13 @@ mod limits;
 mod meshes;
 mod operators;
 mod patterns;
+mod places;
 mod program;
 mod random;
 mod rounds;
 mod scripts;
 mod sweeps;
+mod tables;
 
 use calls::Comparison;
 use random::Random;

@@ -24,7 +24,7 @@ impl Pattern {
     pub fn from_mesh(mesh: &[u8]) -> Self {
         let mut pattern = Pattern::empty();
         let [m1, m2, m3] = &mut pattern.matrices;
-        let (refusal, counts, used) = second::read_mesh(mesh, m1, m2, m3);
+        let (refusal, counts, used, _) = second::read_mesh(mesh, m1, m2, m3);
         assert_eq!((refusal, used), (0, mesh.len()), "a sound mesh");
         pattern.counts = counts;
         pattern
@@ -42,7 +42,7 @@ impl Pattern {
     /// Runs one operator; whether it was accepted. This is only to find operators to compare with,
     /// so the faster of the two does it.
     pub fn apply(&mut self, operator: &[u8]) -> bool {
-        let (refusal, counts) = engine::apply_operator(self.counts, self.lent(), &mut operator.to_vec());
+        let (refusal, counts, _) = engine::apply_operator(self.counts, self.lent(), &mut operator.to_vec(), 0);
         self.counts = counts;
         refusal == 0
     }

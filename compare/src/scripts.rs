@@ -1,6 +1,6 @@
 //! Scripts.
 
-use crate::operators::{mistaken, towards, CODES};
+use crate::operators::{self, mistaken, towards, CODES};
 use crate::patterns::Pattern;
 use crate::random::Random;
 
@@ -43,6 +43,11 @@ pub fn fitting(random: &mut Random, pattern: &Pattern, operators: usize, size: u
     }
     list.truncate(OPERATOR_LIMIT);
     script(pattern.counts, &list)
+}
+
+/// A script of good form with every operator, each thought out for the pattern as it is before the script.
+pub fn every_operator(random: &mut Random, pattern: &Pattern) -> Vec<u8> {
+    script(pattern.counts, &CODES.map(|code| operators::fitting(random, pattern, code)))
 }
 
 /// A script of this length for `parallel([95, 96, 95, 0], 96)`, accepted to its end up to the

@@ -2,7 +2,7 @@
 
 use crate::calls::{Chain, Comparison};
 use crate::chains::{out, sound, CARRY_LIMIT};
-use crate::damaged::VALUES;
+use crate::damaged::variants;
 use crate::meshes::{self, grid, parallel, ring, simplex};
 use crate::operators::{fitting, CODES};
 use crate::patterns::Pattern;
@@ -18,22 +18,6 @@ pub struct Sweeps<'a> {
 fn small() -> Vec<Pattern> {
     let meshes = [simplex(3), simplex(4), grid([1, 1, 1]), ring(4, 5), parallel([3, 6, 5, 4], 4)];
     meshes.map(|mesh| Pattern::from_mesh(&mesh)).into()
-}
-
-/// The bytes cut at every place, with every byte replaced by each of a few values, and with one
-/// more.
-fn variants(bytes: &[u8]) -> Vec<Vec<u8>> {
-    let mut variants: Vec<Vec<u8>> = (0..=bytes.len()).map(|end| bytes[..end].to_vec()).collect();
-    for value in VALUES {
-        for at in 0..=bytes.len() {
-            let mut changed = bytes.to_vec();
-            changed.truncate(at);
-            changed.push(value);
-            changed.extend(bytes.iter().skip(at + 1));
-            variants.push(changed);
-        }
-    }
-    variants
 }
 
 impl<'a> Sweeps<'a> {
@@ -112,7 +96,8 @@ impl<'a> Sweeps<'a> {
     fn scripts(&mut self, pattern: &Pattern) {
         let (operators, _) = scripts::accepted(&mut self.random, pattern, 9, 60);
         let whole = script(pattern.counts, &operators);
-        for bytes in variants(&whole) {
+        let every = scripts::every_operator(&mut self.random, pattern);
+        for bytes in variants(&whole).into_iter().chain(variants(&every)) {
             self.comparison.run_script(pattern, &bytes);
         }
         for dim in 0..4 {

@@ -14,9 +14,10 @@ static int32_t padding[MBYASOKA_SIDE], carried[MBYASOKA_SIDE], steps[MBYASOKA_SI
 /* An operator on pattern and padding: carried first, since carrying takes the pattern as it is before. A refusal leaves both. */
 static uint8_t edit(const uint8_t *bytes, size_t bytes_length)
 {
-    uint8_t refusal = mbyasoka_pattern_carry(&pattern, bytes, bytes_length, 2, padding, carried);
+    uint32_t place;
+    uint8_t refusal = mbyasoka_pattern_carry(&pattern, bytes, bytes_length, 2, padding, carried, &place);
     if (refusal == MBYASOKA_ACCEPTED)
-        refusal = mbyasoka_pattern_apply(&pattern, bytes, bytes_length);
+        refusal = mbyasoka_pattern_apply(&pattern, bytes, bytes_length, &place);
     if (refusal == MBYASOKA_ACCEPTED)
         memcpy(padding, carried, sizeof padding);
     return refusal;
@@ -25,8 +26,9 @@ static uint8_t edit(const uint8_t *bytes, size_t bytes_length)
 int main(void)
 {
     size_t used;
+    uint32_t place;
     int i;
-    if (mbyasoka_pattern_read(&pattern, mesh, sizeof mesh, &used) != MBYASOKA_ACCEPTED)
+    if (mbyasoka_pattern_read(&pattern, mesh, sizeof mesh, &used, &place) != MBYASOKA_ACCEPTED)
         return 1;
     padding[0] = 12;
     printf("split seam 0: refusal %d\n", edit(split_seam, sizeof split_seam));

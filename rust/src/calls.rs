@@ -1,6 +1,8 @@
-//! The public calls on lent slices of any length, each as include/mbyasoka.h says. Answers begin with the refusal, 0 for accepted.
+//! The public calls on lent slices of any length, each as include/mbyasoka.h says. Answers begin with the refusal, 0 for accepted; a place
+//! ends them, `Refusal::NO_PLACE` for none.
 
 use crate::raw;
+use crate::Refusal;
 
 /// The counts of corners, seams, panels and blocks.
 pub type Counts = [u8; 4];
@@ -23,11 +25,11 @@ pub fn check(counts: Counts, [m1, m2, m3]: Matrices) -> u8 {
     call!(mbyasoka_check, [&counts], as_ptr [m1, m2, m3], [])
 }
 
-/// Refusal, counts, bytes used.
-pub fn read_mesh([m1, m2, m3]: MatricesMut, bytes: &[u8]) -> (u8, Counts, usize) {
-    let (mut counts, mut used) = ([0; 4], 0);
-    let refusal = call!(mbyasoka_read_mesh, [&mut counts], as_mut_ptr [m1, m2, m3], [bytes.as_ptr(), bytes.len(), &mut used]);
-    (refusal, counts, used)
+/// Refusal, counts, bytes used, place.
+pub fn read_mesh([m1, m2, m3]: MatricesMut, bytes: &[u8]) -> (u8, Counts, usize, u32) {
+    let (mut counts, mut used, mut place) = ([0; 4], 0, Refusal::NO_PLACE);
+    let refusal = call!(mbyasoka_read_mesh, [&mut counts], as_mut_ptr [m1, m2, m3], [bytes.as_ptr(), bytes.len(), &mut used, &mut place]);
+    (refusal, counts, used, place)
 }
 
 /// Refusal, bytes written.
@@ -44,24 +46,29 @@ pub fn euler(counts: Counts, [m1, m2, m3]: Matrices) -> (u8, i16) {
     (refusal, number)
 }
 
-/// Refusal, counts.
-pub fn apply_operator(mut counts: Counts, [m1, m2, m3]: MatricesMut, bytes: &[u8]) -> (u8, Counts) {
-    let refusal = call!(mbyasoka_apply_operator, [&mut counts], as_mut_ptr [m1, m2, m3], [bytes.as_ptr(), bytes.len()]);
-    (refusal, counts)
+/// Refusal, counts, place.
+pub fn apply_operator(mut counts: Counts, [m1, m2, m3]: MatricesMut, bytes: &[u8]) -> (u8, Counts, u32) {
+    let mut place = Refusal::NO_PLACE;
+    let refusal = call!(mbyasoka_apply_operator, [&mut counts], as_mut_ptr [m1, m2, m3], [bytes.as_ptr(), bytes.len(), &mut place]);
+    (refusal, counts, place)
 }
 
-/// Refusal, counts, operators accepted.
-pub fn run_script(mut counts: Counts, [m1, m2, m3]: MatricesMut, bytes: &[u8]) -> (u8, Counts, u16) {
-    let mut ran = 0;
-    let refusal = call!(mbyasoka_run_script, [&mut counts], as_mut_ptr [m1, m2, m3], [bytes.as_ptr(), bytes.len(), &mut ran]);
-    (refusal, counts, ran)
+/// Refusal, counts, operators accepted, place.
+pub fn run_script(mut counts: Counts, [m1, m2, m3]: MatricesMut, bytes: &[u8]) -> (u8, Counts, u16, u32) {
+    let (mut ran, mut place) = (0, Refusal::NO_PLACE);
+    let refusal = call!(mbyasoka_run_script, [&mut counts], as_mut_ptr [m1, m2, m3], [bytes.as_ptr(), bytes.len(), &mut ran, &mut place]);
+    (refusal, counts, ran, place)
 }
 
 pub fn boundary(counts: Counts, [m1, m2, m3]: Matrices, dimension: u8, chain: &[i32], out: &mut [i32]) -> u8 {
     call!(mbyasoka_boundary, [&counts], as_ptr [m1, m2, m3], [dimension, chain.as_ptr(), chain.len(), out.as_mut_ptr(), out.len()])
 }
 
-pub fn carry(counts: Counts, [m1, m2, m3]: Matrices, bytes: &[u8], dimension: u8, chain: &[i32], out: &mut [i32]) -> u8 {
-    let (lent, length) = (bytes.as_ptr(), bytes.len());
-    call!(mbyasoka_carry, [&counts], as_ptr [m1, m2, m3], [lent, length, dimension, chain.as_ptr(), chain.len(), out.as_mut_ptr(), out.len()])
+/// Refusal, place.
+pub fn carry(counts: Counts, [m1, m2, m3]: Matrices, bytes: &[u8], dimension: u8, chain: &[i32], out: &mut [i32]) -> (u8, u32) {
+    let mut place = Refusal::NO_PLACE;
+    let refusal = call!(mbyasoka_carry, [&counts], as_ptr [m1, m2, m3], [
+        bytes.as_ptr(), bytes.len(), dimension, chain.as_ptr(), chain.len(), out.as_mut_ptr(), out.len(), &mut place
+    ]);
+    (refusal, place)
 }

@@ -10,7 +10,7 @@ pub use limits::{SIDE, SIZE};
 pub use refusal::Refusal;
 
 /// Raised by one with each change that a caller can see, as in include/mbyasoka.h.
-pub const VERSION: u32 = 1;
+pub const VERSION: u32 = 2;
 
 pub type Chain = [i32; SIDE];
 
@@ -36,12 +36,17 @@ impl Default for Pattern {
     }
 }
 
-fn accepted<T>(refusal: u8, answer: T) -> Result<T, Refusal> {
-    if refusal == 0 {
+fn accepted<T>(number: u8, place: u32, answer: T) -> Result<T, Refusal> {
+    if number == 0 {
         Ok(answer)
     } else {
-        Err(Refusal(refusal))
+        Err(Refusal { number, place: (place != Refusal::NO_PLACE).then_some(place) })
     }
+}
+
+/// The answer of a call that tells no place.
+fn unplaced<T>(number: u8, answer: T) -> Result<T, Refusal> {
+    accepted(number, Refusal::NO_PLACE, answer)
 }
 
 impl Pattern {
@@ -57,49 +62,50 @@ impl Pattern {
 
     /// Reads a mesh from the front of the bytes and answers how many it used; a refused one leaves the empty pattern.
     pub fn read(&mut self, bytes: &[u8]) -> Result<usize, Refusal> {
-        let (refusal, counts, used) = calls::read_mesh(self.lent_mut(), bytes);
+        let (refusal, counts, used, place) = calls::read_mesh(self.lent_mut(), bytes);
         self.counts = counts;
-        accepted(refusal, used)
+        accepted(refusal, place, used)
     }
 
     /// Writes the pattern as a mesh and answers how many bytes it wrote.
     pub fn write(&self, out: &mut [u8]) -> Result<usize, Refusal> {
         let (refusal, written) = calls::write_mesh(self.counts, self.lent(), out);
-        accepted(refusal, written)
+        unplaced(refusal, written)
     }
 
     /// Whether the pattern is good.
     pub fn check(&self) -> Result<(), Refusal> {
-        accepted(calls::check(self.counts, self.lent()), ())
+        unplaced(calls::check(self.counts, self.lent()), ())
     }
 
     /// Corners - seams + panels - blocks.
     pub fn euler(&self) -> Result<i16, Refusal> {
         let (refusal, number) = calls::euler(self.counts, self.lent());
-        accepted(refusal, number)
+        unplaced(refusal, number)
     }
 
     /// One operator; a refused one changes nothing.
     pub fn apply(&mut self, operator: &[u8]) -> Result<(), Refusal> {
-        let (refusal, counts) = calls::apply_operator(self.counts, self.lent_mut(), operator);
+        let (refusal, counts, place) = calls::apply_operator(self.counts, self.lent_mut(), operator);
         self.counts = counts;
-        accepted(refusal, ())
+        accepted(refusal, place, ())
     }
 
     /// A script, up to its first refusal. **A script refused at an operator has changed the pattern**: who wants all or nothing keeps a clone.
     pub fn run(&mut self, script: &[u8]) -> Run {
-        let (refusal, counts, ran) = calls::run_script(self.counts, self.lent_mut(), script);
+        let (refusal, counts, ran, place) = calls::run_script(self.counts, self.lent_mut(), script);
         self.counts = counts;
-        Run { ran, refusal: accepted(refusal, ()).err() }
+        Run { ran, refusal: accepted(refusal, place, ()).err() }
     }
 
     /// The boundary of a chain of cells of a dimension; a refused call leaves `out`.
     pub fn boundary(&self, dimension: u8, chain: &Chain, out: &mut Chain) -> Result<(), Refusal> {
-        accepted(calls::boundary(self.counts, self.lent(), dimension, chain, out), ())
+        unplaced(calls::boundary(self.counts, self.lent(), dimension, chain, out), ())
     }
 
     /// The chain carried through one operator, which is not performed; a refused call leaves `out`.
     pub fn carry(&self, operator: &[u8], dimension: u8, chain: &Chain, out: &mut Chain) -> Result<(), Refusal> {
-        accepted(calls::carry(self.counts, self.lent(), operator, dimension, chain, out), ())
+        let (refusal, place) = calls::carry(self.counts, self.lent(), operator, dimension, chain, out);
+        accepted(refusal, place, ())
     }
 }

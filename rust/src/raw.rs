@@ -4,7 +4,7 @@ extern "C" {
     pub fn mbyasoka_check(counts: *const [u8; 4], m1: *const i8, l1: usize, m2: *const i8, l2: usize, m3: *const i8, l3: usize) -> u8;
     pub fn mbyasoka_read_mesh(
         counts: *mut [u8; 4], m1: *mut i8, l1: usize, m2: *mut i8, l2: usize, m3: *mut i8, l3: usize,
-        bytes: *const u8, bytes_length: usize, used: *mut usize,
+        bytes: *const u8, bytes_length: usize, used: *mut usize, place: *mut u32,
     ) -> u8;
     pub fn mbyasoka_write_mesh(
         counts: *const [u8; 4], m1: *const i8, l1: usize, m2: *const i8, l2: usize, m3: *const i8, l3: usize,
@@ -15,11 +15,11 @@ extern "C" {
     ) -> u8;
     pub fn mbyasoka_apply_operator(
         counts: *mut [u8; 4], m1: *mut i8, l1: usize, m2: *mut i8, l2: usize, m3: *mut i8, l3: usize,
-        bytes: *const u8, bytes_length: usize,
+        bytes: *const u8, bytes_length: usize, place: *mut u32,
     ) -> u8;
     pub fn mbyasoka_run_script(
         counts: *mut [u8; 4], m1: *mut i8, l1: usize, m2: *mut i8, l2: usize, m3: *mut i8, l3: usize,
-        bytes: *const u8, bytes_length: usize, ran: *mut u16,
+        bytes: *const u8, bytes_length: usize, ran: *mut u16, place: *mut u32,
     ) -> u8;
     pub fn mbyasoka_boundary(
         counts: *const [u8; 4], m1: *const i8, l1: usize, m2: *const i8, l2: usize, m3: *const i8, l3: usize,
@@ -28,5 +28,6 @@ extern "C" {
     pub fn mbyasoka_carry(
         counts: *const [u8; 4], m1: *const i8, l1: usize, m2: *const i8, l2: usize, m3: *const i8, l3: usize,
         bytes: *const u8, bytes_length: usize, dimension: u8, chain: *const i32, chain_length: usize, out: *mut i32, out_length: usize,
+        place: *mut u32,
     ) -> u8;
 }

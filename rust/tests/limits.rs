@@ -17,6 +17,10 @@ fn full_mesh() -> Vec<u8> {
     mesh
 }
 
+fn refused(number: u8, place: Option<u32>) -> Refusal {
+    Refusal { number, place }
+}
+
 fn full() -> Box<Pattern> {
     let mut pattern = Box::<Pattern>::default();
     assert_eq!(pattern.read(&full_mesh()), Ok(MESH_BYTES));
@@ -26,7 +30,7 @@ fn full() -> Box<Pattern> {
 #[test]
 fn of_the_mesh() {
     let mut out = [0; MESH_BYTES];
-    assert_eq!(full().write(&mut out[1..]), Err(Refusal::SHORT_OUTPUT));
+    assert_eq!(full().write(&mut out[1..]), Err(refused(Refusal::SHORT_OUTPUT, None)));
     assert_eq!(full().write(&mut out), Ok(MESH_BYTES));
     assert!(out[..] == full_mesh());
 }
@@ -36,9 +40,9 @@ fn of_an_operator() {
     let mut operator = vec![0x12, SIDE as u8];
     operator.extend((0..SIDE as u8).flat_map(|i| [i, 1]));
     assert_eq!(operator.len(), OPERATOR_BYTES);
-    assert_eq!(full().apply(&operator), Err(Refusal::NO_ROOM));
+    assert_eq!(full().apply(&operator), Err(refused(Refusal::NO_ROOM, None)));
     operator.push(0);
-    assert_eq!(full().apply(&operator), Err(Refusal::BYTES_LEFT));
+    assert_eq!(full().apply(&operator), Err(refused(Refusal::BYTES_LEFT, Some(OPERATOR_BYTES as u32))));
 }
 
 #[test]
@@ -50,21 +54,22 @@ fn of_a_script() {
         script
     };
     assert_eq!(full().run(&script(OPERATORS)), Run { ran: OPERATORS, refusal: None });
-    assert_eq!(full().run(&script(OPERATORS + 1)), Run { ran: 0, refusal: Some(Refusal::WRONG_FORM) });
-    let mut long = script(OPERATORS);
+    assert_eq!(full().run(&script(OPERATORS + 1)), Run { ran: 0, refusal: Some(refused(Refusal::WRONG_FORM, Some(5))) });
+    let (mut long, whole) = (script(OPERATORS), script(OPERATORS).len() as u32);
     long.resize(SCRIPT_BYTES, 0);
-    assert_eq!(full().run(&long).refusal, Some(Refusal::BYTES_LEFT));
+    assert_eq!(full().run(&long).refusal, Some(refused(Refusal::BYTES_LEFT, Some(whole))));
     long.push(0);
-    assert_eq!(full().run(&long).refusal, Some(Refusal::WRONG_LENGTH));
+    assert_eq!(full().run(&long).refusal, Some(refused(Refusal::WRONG_LENGTH, None)));
 }
 
 #[test]
 fn of_coefficients() {
     let (pattern, mut out) = (full(), [0; SIDE]);
+    let wrong_chain = Err(refused(Refusal::WRONG_CHAIN, None));
     for sign in [1, -1] {
         assert_eq!(pattern.boundary(2, &[sign * BOUNDARY_LIMIT; SIDE], &mut out), Ok(()));
-        assert_eq!(pattern.boundary(2, &[sign * (BOUNDARY_LIMIT + 1); SIDE], &mut out), Err(Refusal::WRONG_CHAIN));
+        assert_eq!(pattern.boundary(2, &[sign * (BOUNDARY_LIMIT + 1); SIDE], &mut out), wrong_chain);
         assert_eq!(pattern.carry(&[0x52, 0], 2, &[sign * CARRY_LIMIT; SIDE], &mut out), Ok(()));
-        assert_eq!(pattern.carry(&[0x52, 0], 2, &[sign * (CARRY_LIMIT + 1); SIDE], &mut out), Err(Refusal::WRONG_CHAIN));
+        assert_eq!(pattern.carry(&[0x52, 0], 2, &[sign * (CARRY_LIMIT + 1); SIDE], &mut out), wrong_chain);
     }
 }

@@ -3,7 +3,7 @@
 use crate::cells::{Pattern, LIMIT};
 use crate::form::Operator;
 use crate::operators;
-use crate::refusal::{demand, Answer, Refusal};
+use crate::refusal::{demand, Answer, Judged, Refusal};
 
 pub type Chain = [i32; LIMIT];
 
@@ -37,9 +37,9 @@ pub fn carries(dim: usize) -> Answer<()> {
 }
 
 /// The chain after an operator decoded from `bytes`; the pattern stays as it is.
-pub fn carry(pattern: &Pattern, operator: Operator, bytes: &[u8], dim: usize, chain: &Chain) -> Answer<Chain> {
+pub fn carry(pattern: &Pattern, operator: Operator, bytes: &[u8], dim: usize, chain: &Chain) -> Judged<Chain> {
     if let Operator::Kill { .. } | Operator::Merge { .. } = operator {
-        return Err(Refusal::NotCarried);
+        return Err(Refusal::NotCarried.into());
     }
     operators::run(&mut pattern.clone(), operator, bytes)?;
     let count = pattern.count(dim);

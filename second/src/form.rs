@@ -1,7 +1,10 @@
 //! The form of bytes: fields, lists and operators, whatever they may mean.
 
 use crate::cells::{Face, LIMIT};
-use crate::refusal::{demand, Answer, Refusal};
+use crate::fault::{Fault, Field};
+use crate::refusal::Refusal;
+
+pub type Form<T> = Result<T, Fault>;
 
 /// A decoded operator. `list` is where its list (or a new seam's tail) begins
 /// in the bytes it was decoded from.
@@ -12,6 +15,30 @@ pub enum Operator {
     Split { dim: usize, cell: u8, list: usize },
     Merge { dim: usize, cell: u8 },
     Flip { dim: usize, cell: u8 },
+}
+
+enum Kind {
+    Make,
+    Kill,
+    Split,
+    Merge,
+    Flip,
+}
+
+fn kind_of(code: u8) -> Option<Kind> {
+    match code {
+        0x10..=0x13 => Some(Kind::Make),
+        0x20..=0x23 => Some(Kind::Kill),
+        0x31..=0x33 => Some(Kind::Split),
+        0x40..=0x42 => Some(Kind::Merge),
+        0x51..=0x53 => Some(Kind::Flip),
+        _ => None,
+    }
+}
+
+fn fault(refusal: Refusal, place: usize, field: Field) -> Fault {
+    // The longest form, a script's, has under 200,000 bytes, so nothing is cut off.
+    Fault { number: refusal as u8, place: place as u32, field }
 }
 
 /// Reads fields one after another; each is judged when all its bytes are there.
@@ -30,43 +57,40 @@ impl<'a> Fields<'a> {
         self.at
     }
 
-    pub fn number(&mut self) -> Answer<u8> {
-        let byte = self.bytes.get(self.at).ok_or(Refusal::BytesEnd)?;
-        self.at += 1;
-        Ok(*byte)
+    /// The next field, of `N` bytes; `judge` gives its value, or none if it is faulty.
+    pub fn field<const N: usize, T>(&mut self, field: Field, judge: impl Fn([u8; N]) -> Option<T>) -> Form<T> {
+        let bytes = self.bytes.get(self.at..self.at + N).and_then(|own| own.try_into().ok());
+        let bytes = bytes.ok_or_else(|| fault(Refusal::BytesEnd, self.bytes.len(), field))?;
+        let value = judge(bytes).ok_or_else(|| fault(Refusal::Form, self.at, field))?;
+        self.at += N;
+        Ok(value)
     }
 
     /// A cell or face count.
-    pub fn count(&mut self) -> Answer<u8> {
-        let count = self.number()?;
-        demand(usize::from(count) <= LIMIT, Refusal::Form)?;
-        Ok(count)
+    pub fn count(&mut self, field: Field) -> Form<u8> {
+        self.field(field, |[count]| (usize::from(count) <= LIMIT).then_some(count))
     }
 
-    /// A number of two bytes, low first.
-    pub fn wide(&mut self) -> Answer<u16> {
-        let low = self.number()?;
-        let high = self.number()?;
-        Ok(u16::from_le_bytes([low, high]))
+    fn number(&mut self) -> Form<u8> {
+        self.field(Field::CellNumber, |[number]| Some(number))
     }
 
-    fn sign(&mut self) -> Answer<i8> {
-        match self.number()? {
-            1 => Ok(1),
-            2 => Ok(-1),
-            _ => Err(Refusal::Form),
-        }
+    fn sign(&mut self) -> Form<i8> {
+        self.field(Field::Sign, |[byte]| match byte {
+            1 => Some(1),
+            2 => Some(-1),
+            _ => None,
+        })
     }
 
-    fn rising(&mut self, last: Option<u8>) -> Answer<u8> {
-        let number = self.number()?;
-        demand(last.map_or(true, |last| number > last), Refusal::Form)?;
-        Ok(number)
+    fn rising(&mut self, last: Option<u8>) -> Form<u8> {
+        let rises = |number| last.map_or(true, |last| number > last);
+        self.field(Field::ListNumber, |[number]| rises(number).then_some(number))
     }
 
     /// A face count and that many pairs of number and sign.
-    pub fn signed_faces(&mut self) -> Answer<Vec<Face>> {
-        let count = self.count()?;
+    pub fn signed_faces(&mut self) -> Form<Vec<Face>> {
+        let count = self.count(Field::FaceCount)?;
         let mut faces: Vec<Face> = Vec::new();
         for _ in 0..count {
             let number = self.rising(faces.last().map(|face| face.0))?;
@@ -76,8 +100,8 @@ impl<'a> Fields<'a> {
     }
 
     /// A face count and that many numbers.
-    pub fn faces(&mut self) -> Answer<Vec<u8>> {
-        let count = self.count()?;
+    pub fn faces(&mut self) -> Form<Vec<u8>> {
+        let count = self.count(Field::FaceCount)?;
         let mut faces: Vec<u8> = Vec::new();
         for _ in 0..count {
             faces.push(self.rising(faces.last().copied())?);
@@ -86,24 +110,22 @@ impl<'a> Fields<'a> {
     }
 
     /// Tail and head of a seam.
-    pub fn ends(&mut self) -> Answer<(u8, u8)> {
+    pub fn ends(&mut self) -> Form<(u8, u8)> {
         Ok((self.number()?, self.number()?))
     }
 
-    pub fn operator(&mut self) -> Answer<Operator> {
-        let code = self.number()?;
-        let dim = usize::from(code & 15);
-        match code {
-            0x10..=0x13 => self.make(dim),
-            0x20..=0x23 => self.number().map(|cell| Operator::Kill { dim, cell }),
-            0x31..=0x33 => self.split(dim),
-            0x40..=0x42 => self.number().map(|cell| Operator::Merge { dim, cell }),
-            0x51..=0x53 => self.number().map(|cell| Operator::Flip { dim, cell }),
-            _ => Err(Refusal::Form),
+    pub fn operator(&mut self) -> Form<Operator> {
+        let (kind, dim) = self.field(Field::Code, |[code]| Some((kind_of(code)?, usize::from(code & 15))))?;
+        match kind {
+            Kind::Make => self.make(dim),
+            Kind::Kill => self.number().map(|cell| Operator::Kill { dim, cell }),
+            Kind::Split => self.split(dim),
+            Kind::Merge => self.number().map(|cell| Operator::Merge { dim, cell }),
+            Kind::Flip => self.number().map(|cell| Operator::Flip { dim, cell }),
         }
     }
 
-    fn make(&mut self, dim: usize) -> Answer<Operator> {
+    fn make(&mut self, dim: usize) -> Form<Operator> {
         let list = self.at;
         match dim {
             0 => {}
@@ -117,7 +139,7 @@ impl<'a> Fields<'a> {
         Ok(Operator::Make { dim, list })
     }
 
-    fn split(&mut self, dim: usize) -> Answer<Operator> {
+    fn split(&mut self, dim: usize) -> Form<Operator> {
         let cell = self.number()?;
         let list = self.at;
         if dim > 1 {
@@ -127,7 +149,11 @@ impl<'a> Fields<'a> {
     }
 
     /// Refuses bytes after what has been read.
-    pub fn finish(&self) -> Answer<()> {
-        demand(self.at == self.bytes.len(), Refusal::BytesFollow)
+    pub fn finish(&self) -> Form<()> {
+        if self.at == self.bytes.len() {
+            Ok(())
+        } else {
+            Err(fault(Refusal::BytesFollow, self.at, Field::LeftOver))
+        }
     }
 }

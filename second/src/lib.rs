@@ -6,6 +6,7 @@ mod border;
 mod calls;
 mod cells;
 mod chains;
+mod fault;
 mod form;
 mod good;
 mod mesh;
@@ -15,6 +16,8 @@ mod refusal;
 mod script;
 
 pub use calls::{apply_operator, boundary, carry, check, euler, read_mesh, run_script, write_mesh};
+pub use calls::{mesh_fault, operator_fault, script_fault};
 pub use cells::LIMIT;
+pub use fault::{Fault, Field, NO_PLACE};
 pub use operators::EULER_STEP;
 pub use printed::{printed, INPUT_LIMIT};

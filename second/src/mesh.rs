@@ -1,23 +1,24 @@
 //! The mesh file.
 
 use crate::cells::{Cell, Face, Pattern};
+use crate::fault::Field;
 use crate::form::Fields;
-use crate::refusal::{demand, Answer, Refusal};
+use crate::refusal::{demand, Answer, Judged, Refusal};
 
 /// The pattern of the mesh at the front of the bytes, and how many it used.
-pub fn read(bytes: &[u8]) -> Answer<(Pattern, usize)> {
+pub fn read(bytes: &[u8]) -> Judged<(Pattern, usize)> {
     let mut fields = Fields::from(bytes, 0);
     let mut pattern = Pattern::default();
-    for _ in 0..fields.count()? {
+    for _ in 0..fields.count(Field::MeshCount)? {
         pattern.append(0, Cell::default());
     }
-    for _ in 0..fields.count()? {
+    for _ in 0..fields.count(Field::MeshCount)? {
         let (tail, head) = fields.ends()?;
         let seam = new_seam(&pattern, tail, head)?;
         pattern.append(1, seam);
     }
     for dim in [2, 3] {
-        for _ in 0..fields.count()? {
+        for _ in 0..fields.count(Field::MeshCount)? {
             let faces = fields.signed_faces()?;
             faces_exist(&pattern, dim, &faces)?;
             demand(is_boundary(&pattern, dim, &faces), Refusal::NotClosed)?;

@@ -3,37 +3,37 @@
 use crate::cells::{Cell, Face, Pattern};
 use crate::form::{Fields, Operator};
 use crate::mesh::{faces_exist, is_boundary, seam_between};
-use crate::refusal::{demand, Answer, Refusal};
+use crate::refusal::{demand, Answer, Judged, Refusal};
 
 /// What an accepted operator adds to the Euler number: rows make, kill, split,
 /// merge at, flip; columns dimension 0 to 3. Where there is no operator, 0.
 pub const EULER_STEP: [[i16; 4]; 5] = [[1, -1, 1, -1], [-1, 1, -1, 1], [0, 0, 0, 0], [0, 0, 0, 0], [0, 0, 0, 0]];
 
 /// Runs an operator decoded from `bytes`; a refused one leaves the pattern as it is.
-pub fn run(pattern: &mut Pattern, operator: Operator, bytes: &[u8]) -> Answer<()> {
+pub fn run(pattern: &mut Pattern, operator: Operator, bytes: &[u8]) -> Judged<()> {
     match operator {
         Operator::Make { dim: 0, .. } => {
             demand(!pattern.is_full(0), Refusal::Full)?;
             pattern.append(0, Cell::default());
-            Ok(())
         }
         Operator::Make { dim: 1, list } => {
             let (tail, head) = Fields::from(bytes, list).ends()?;
-            make_seam(pattern, tail, head)
+            make_seam(pattern, tail, head)?;
         }
         Operator::Make { dim, list } => {
             let faces = Fields::from(bytes, list).signed_faces()?;
-            make_sewn(pattern, dim, faces)
+            make_sewn(pattern, dim, faces)?;
         }
-        Operator::Kill { dim, cell } => kill(pattern, dim, cell),
-        Operator::Split { dim: 1, cell, .. } => split_seam(pattern, cell),
+        Operator::Kill { dim, cell } => kill(pattern, dim, cell)?,
+        Operator::Split { dim: 1, cell, .. } => split_seam(pattern, cell)?,
         Operator::Split { dim, cell, list } => {
             let listed = Fields::from(bytes, list).faces()?;
-            split_sewn(pattern, dim, cell, &listed)
+            split_sewn(pattern, dim, cell, &listed)?;
         }
-        Operator::Merge { dim, cell } => merge(pattern, dim, cell),
-        Operator::Flip { dim, cell } => flip(pattern, dim, cell),
+        Operator::Merge { dim, cell } => merge(pattern, dim, cell)?,
+        Operator::Flip { dim, cell } => flip(pattern, dim, cell)?,
     }
+    Ok(())
 }
 
 fn find(pattern: &Pattern, dim: usize, number: u8) -> Answer<&Cell> {

@@ -3,6 +3,7 @@
 use crate::border::load;
 use crate::calls::{read_mesh, run_script};
 use crate::cells::{Pattern, LIMIT};
+use crate::fault::NO_PLACE;
 
 /// The most bytes the program takes.
 pub const INPUT_LIMIT: usize = 65_536;
@@ -11,15 +12,23 @@ pub const INPUT_LIMIT: usize = 65_536;
 pub fn printed(input: &[u8]) -> String {
     let input = input.get(..INPUT_LIMIT).unwrap_or(input);
     let [mut m1, mut m2, mut m3] = [[0; LIMIT * LIMIT]; 3];
-    let (refusal, counts, used) = read_mesh(input, &mut m1, &mut m2, &mut m3);
+    let (refusal, counts, used, place) = read_mesh(input, &mut m1, &mut m2, &mut m3);
     if refusal != 0 {
-        return format!("mesh refusal {refusal}\n");
+        return format!("mesh refusal {refusal}{}\n", at(place));
     }
     let script = input.get(used..).unwrap_or(&[]);
-    let (refusal, counts, ran) = run_script(counts, &mut m1, &mut m2, &mut m3, script);
+    let (refusal, counts, ran, place) = run_script(counts, &mut m1, &mut m2, &mut m3, script);
     // A pattern that has been read and run is good, so this loads it.
     let pattern = load(counts, [&m1, &m2, &m3]).unwrap_or_default();
-    format!("ran {ran} refusal {refusal}\n{}", listing(&pattern))
+    format!("ran {ran} refusal {refusal}{}\n{}", at(place), listing(&pattern))
+}
+
+/// What a refusal for the form gains: neither call has a 3, 4 or 14 without a place.
+fn at(place: u32) -> String {
+    match place {
+        NO_PLACE => String::new(),
+        _ => format!(" at {place}"),
+    }
 }
 
 fn listing(pattern: &Pattern) -> String {

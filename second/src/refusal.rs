@@ -1,4 +1,6 @@
-//! The numbers given back.
+//! The numbers given back, and the places given with them.
+
+use crate::fault::{Fault, NO_PLACE};
 
 /// Each case's value is the document's number for it.
 #[derive(Clone, Copy, Debug, PartialEq, Eq)]
@@ -24,6 +26,45 @@ pub enum Refusal {
 }
 
 pub type Answer<T> = Result<T, Refusal>;
+
+/// What can be refused for the form of bytes, too.
+pub type Judged<T> = Result<T, Refused>;
+
+#[derive(Clone, Copy, Debug, PartialEq, Eq)]
+pub enum Refused {
+    ByForm(Fault),
+    Otherwise(Refusal),
+}
+
+impl From<Fault> for Refused {
+    fn from(fault: Fault) -> Self {
+        Refused::ByForm(fault)
+    }
+}
+
+impl From<Refusal> for Refused {
+    fn from(refusal: Refusal) -> Self {
+        Refused::Otherwise(refusal)
+    }
+}
+
+impl Refused {
+    pub fn fault(self) -> Option<Fault> {
+        match self {
+            Refused::ByForm(fault) => Some(fault),
+            Refused::Otherwise(_) => None,
+        }
+    }
+}
+
+/// The refusal's number, 0 for accepted, and its place.
+pub fn placed<T>(answer: &Judged<T>) -> (u8, u32) {
+    match answer {
+        Ok(_) => (0, NO_PLACE),
+        Err(Refused::ByForm(fault)) => (fault.number, fault.place),
+        Err(Refused::Otherwise(refusal)) => (*refusal as u8, NO_PLACE),
+    }
+}
 
 /// The refusal's number, 0 for accepted.
 pub fn number<T>(answer: &Answer<T>) -> u8 {

@@ -1,14 +1,15 @@
 //! The script, and one operator alone.
 
 use crate::cells::Pattern;
-use crate::form::{Fields, Operator};
+use crate::fault::Field;
+use crate::form::{Fields, Form, Operator};
 use crate::operators;
-use crate::refusal::{demand, Answer, Refusal};
+use crate::refusal::{demand, Answer, Judged, Refusal};
 
 const SCRIPT_LIMIT: usize = 24_576;
 const OPERATOR_LIMIT: u16 = 1_024;
 
-struct Script {
+pub struct Script {
     base: [u8; 4],
     operators: Vec<Operator>,
 }
@@ -18,22 +19,23 @@ pub fn length_right(bytes: &[u8]) -> Answer<()> {
 }
 
 /// The one operator that the bytes are.
-pub fn single(bytes: &[u8]) -> Answer<Operator> {
+pub fn single(bytes: &[u8]) -> Form<Operator> {
     let mut fields = Fields::from(bytes, 0);
     let operator = fields.operator()?;
     fields.finish()?;
     Ok(operator)
 }
 
-fn decode(bytes: &[u8]) -> Answer<Script> {
+pub fn decode(bytes: &[u8]) -> Form<Script> {
     let mut fields = Fields::from(bytes, 0);
-    demand(fields.number()? == 4, Refusal::Form)?;
+    fields.field(Field::BaseCount, |[count]| (count == 4).then_some(()))?;
     let mut base = [0; 4];
     for count in &mut base {
-        *count = fields.count()?;
+        *count = fields.count(Field::BaseCellCount)?;
     }
-    let count = fields.wide()?;
-    demand(count <= OPERATOR_LIMIT, Refusal::Form)?;
+    // Low byte first.
+    let within = |bytes| Some(u16::from_le_bytes(bytes)).filter(|&count| count <= OPERATOR_LIMIT);
+    let count = fields.field(Field::OperatorCount, within)?;
     let mut operators = Vec::new();
     for _ in 0..count {
         operators.push(fields.operator()?);
@@ -43,18 +45,18 @@ fn decode(bytes: &[u8]) -> Answer<Script> {
 }
 
 /// Runs a script up to its first refused operator; answers how many ran, too.
-pub fn run(pattern: &mut Pattern, bytes: &[u8]) -> (Answer<()>, u16) {
+pub fn run(pattern: &mut Pattern, bytes: &[u8]) -> (Judged<()>, u16) {
     let script = match decode(bytes) {
         Ok(script) => script,
-        Err(refusal) => return (Err(refusal), 0),
+        Err(fault) => return (Err(fault.into()), 0),
     };
     if script.base != pattern.counts() {
-        return (Err(Refusal::Stale), 0);
+        return (Err(Refusal::Stale.into()), 0);
     }
     let mut ran = 0;
     for operator in script.operators {
-        if let Err(refusal) = operators::run(pattern, operator, bytes) {
-            return (Err(refusal), ran);
+        if let Err(refused) = operators::run(pattern, operator, bytes) {
+            return (Err(refused), ran);
         }
         ran += 1;
     }

@@ -3,6 +3,7 @@
 mod common;
 
 use common::{Dice, Lent, TETRAHEDRON};
+use second::{mesh_fault, operator_fault, script_fault, Fault, Field, NO_PLACE};
 
 /// A list of rising numbers below `limit`.
 fn rising(dice: &mut Dice, limit: usize) -> Vec<u8> {
@@ -127,17 +128,68 @@ fn laws_of_operators() {
     }
 }
 
+/// A tetrahedron, 53 bytes, and a script of chance for it, with one byte exchanged.
+fn input(dice: &mut Dice) -> Vec<u8> {
+    let length = dice.below(60);
+    let mut input = TETRAHEDRON.to_vec();
+    input.extend([4, 4, 6, 4, 1, dice.below(9) as u8, 0]);
+    input.extend((0..length).map(|_| dice.below(7) as u8 * 16 + dice.below(5) as u8));
+    let at = dice.below(input.len());
+    input[at] = dice.below(256) as u8;
+    input
+}
+
 #[test]
 fn any_bytes_are_answered() {
     let mut dice = Dice(7);
     for _ in 0..2_000 {
-        let length = dice.below(60);
-        let mut input = TETRAHEDRON.to_vec();
-        input.extend([4, 4, 6, 4, 1, dice.below(9) as u8, 0]);
-        input.extend((0..length).map(|_| dice.below(7) as u8 * 16 + dice.below(5) as u8));
-        let at = dice.below(input.len());
-        input[at] = dice.below(256) as u8;
-        let text = second::printed(&input);
+        let text = second::printed(&input(&mut dice));
         assert!(text.starts_with("ran ") || text.starts_with("mesh refusal "));
     }
+}
+
+/// The bytes before a place lack only what is there, and none after a faulty field counts.
+fn place_is_apt(fault: fn(&[u8]) -> Option<Fault>, bytes: &[u8], found: Fault) {
+    let place = found.place as usize;
+    let before = fault(&bytes[..place]);
+    match found.number {
+        3 => assert_eq!(place, bytes.len()),
+        4 => {
+            let width = if found.field == Field::OperatorCount { 2 } else { 1 };
+            assert_eq!(before, Some(Fault { number: 3, ..found }));
+            assert_eq!(fault(&bytes[..place + width]), Some(found));
+        }
+        _ => assert_eq!((found.number, place < bytes.len(), before), (14, true, None)),
+    }
+}
+
+#[test]
+fn places_of_any_bytes() {
+    let mut dice = Dice(8);
+    let mut found = [[0; 10]; 15];
+    let mut ask = |fault: fn(&[u8]) -> Option<Fault>, bytes: &[u8], refusal: u8, place: u32| match fault(bytes) {
+        Some(fault_found) => {
+            assert_eq!((fault_found.number, fault_found.place), (refusal, place));
+            place_is_apt(fault, bytes, fault_found);
+            found[usize::from(refusal)][fault_found.field as usize] += 1;
+        }
+        None => assert_eq!(place, NO_PLACE),
+    };
+    for _ in 0..4_000 {
+        let bytes = input(&mut dice);
+        let mesh = &bytes[..dice.below(54)];
+        let (refusal, _, place) = Lent::empty().read_mesh_at(mesh);
+        ask(mesh_fault, mesh, refusal, place);
+        let script = &bytes[53..53 + dice.below(bytes.len() - 52)];
+        let (refusal, _, place) = Lent::read(&TETRAHEDRON).run_at(script);
+        ask(script_fault, script, refusal, place);
+        let operator = &bytes[60..];
+        let (refusal, place) = Lent::read(&TETRAHEDRON).apply_at(operator);
+        ask(operator_fault, operator, refusal, place);
+    }
+    let reached = |number: usize| found[number].map(|times| times > 0);
+    let [yes, no] = [true, false];
+    assert_eq!(reached(3), [yes, yes, yes, yes, yes, yes, yes, yes, yes, no]);
+    assert_eq!(reached(4), [yes, yes, yes, yes, no, yes, yes, yes, yes, no]);
+    assert_eq!(reached(14), [no, no, no, no, no, no, no, no, no, yes]);
 }

@@ -2,6 +2,7 @@
 use super::form::{self, Operator};
 use super::operators::apply;
 use super::pattern::{check, column, Pattern, SIDE};
+use super::{answer, Placed, Refused};
 
 fn is_chain(c: &[i32], n: usize, limit: i32) -> bool {
     c[..n].iter().all(|x| -limit <= *x && *x <= limit) && c[n..].iter().all(|x| *x == 0)
@@ -30,31 +31,31 @@ pub fn boundary(p: &Pattern, d: usize, chain: &[i32], out: &mut [i32]) -> u8 {
     0
 }
 
+/// Refusal and place.
+pub fn carry(p: &Pattern, s: &[u8], d: usize, chain: &[i32], out: &mut [i32]) -> (u8, u32) {
+    answer(carried(p, s, d, chain, out))
+}
+
 /// The operator is tried on a copy of the pattern.
-pub fn carry(p: &Pattern, s: &[u8], d: usize, chain: &[i32], out: &mut [i32]) -> u8 {
+fn carried(p: &Pattern, s: &[u8], d: usize, chain: &[i32], out: &mut [i32]) -> Result<(), Placed> {
     if chain.len() != SIDE || out.len() != SIDE {
-        return 1;
+        return Err(Refused(1).into());
     }
     let refusal = check(p);
     if refusal != 0 {
-        return refusal;
+        return Err(Refused(refusal).into());
     }
     if 3 < d {
-        return 4;
+        return Err(Refused(4).into());
     }
-    let o = match form::lone_operator(s) {
-        Ok(o) => o,
-        Err(r) => return r.0,
-    };
+    let o = form::lone_operator(s)?;
     if let Operator::Kill { .. } | Operator::Merge { .. } = o {
-        return 17;
+        return Err(Refused(17).into());
     }
     let mut copy = Pattern { n: p.n, m: p.m };
-    if let Err(r) = apply(&mut copy, o, s) {
-        return r.0;
-    }
+    apply(&mut copy, o, s)?;
     if !is_chain(chain, p.n[d] as usize, 100_000_000) {
-        return 16;
+        return Err(Refused(16).into());
     }
     out.copy_from_slice(chain);
     match o {
@@ -62,5 +63,5 @@ pub fn carry(p: &Pattern, s: &[u8], d: usize, chain: &[i32], out: &mut [i32]) ->
         Operator::Flip { dim, cell } if dim == d => out[cell] = -chain[cell],
         _ => {}
     }
-    0
+    Ok(())
 }

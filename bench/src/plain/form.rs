@@ -1,5 +1,5 @@
 //! The form of an operator and of a script.
-use super::Refused;
+use super::Placed;
 
 #[derive(Clone, Copy)]
 pub enum Operator {
@@ -10,17 +10,21 @@ pub enum Operator {
     Flip { dim: usize, cell: usize },
 }
 
-pub fn byte(s: &[u8], at: usize, low: usize, high: usize) -> Result<usize, Refused> {
-    let x = *s.get(at).ok_or(Refused(3))? as usize;
+fn cut_short(s: &[u8]) -> Placed {
+    Placed(3, s.len() as u32)
+}
+
+pub fn byte(s: &[u8], at: usize, low: usize, high: usize) -> Result<usize, Placed> {
+    let x = *s.get(at).ok_or_else(|| cut_short(s))? as usize;
     if x < low || high < x {
-        Err(Refused(4))
+        Err(Placed(4, at as u32))
     } else {
         Ok(x)
     }
 }
 
 /// A list of faces, with signs or without: the place after it.
-fn list_form(s: &[u8], at: usize, signed: bool) -> Result<usize, Refused> {
+fn list_form(s: &[u8], at: usize, signed: bool) -> Result<usize, Placed> {
     let n = byte(s, at, 0, 96)?;
     let (mut place, mut low) = (at + 1, 0);
     for _ in 0..n {
@@ -35,7 +39,7 @@ fn list_form(s: &[u8], at: usize, signed: bool) -> Result<usize, Refused> {
 }
 
 /// What a cell of dimension k is made with: the place after it.
-pub fn made_form(s: &[u8], k: usize, at: usize) -> Result<usize, Refused> {
+pub fn made_form(s: &[u8], k: usize, at: usize) -> Result<usize, Placed> {
     match k {
         0 => Ok(at),
         1 => {
@@ -48,7 +52,7 @@ pub fn made_form(s: &[u8], k: usize, at: usize) -> Result<usize, Refused> {
 }
 
 /// The operator at a place, and the place after it.
-pub fn operator(s: &[u8], at: usize) -> Result<(Operator, usize), Refused> {
+pub fn operator(s: &[u8], at: usize) -> Result<(Operator, usize), Placed> {
     let code = byte(s, at, 0, 255)?;
     let dim = code & 15;
     let cell = |at| byte(s, at, 0, 255);
@@ -62,32 +66,32 @@ pub fn operator(s: &[u8], at: usize) -> Result<(Operator, usize), Refused> {
         }
         0x40..=0x42 => Ok((Operator::Merge { dim, cell: cell(at + 1)? }, at + 2)),
         0x51..=0x53 => Ok((Operator::Flip { dim, cell: cell(at + 1)? }, at + 2)),
-        _ => Err(Refused(4)),
+        _ => Err(Placed(4, at as u32)),
     }
 }
 
 /// One operator and nothing after it.
-pub fn lone_operator(s: &[u8]) -> Result<Operator, Refused> {
+pub fn lone_operator(s: &[u8]) -> Result<Operator, Placed> {
     let (o, next) = operator(s, 0)?;
     if next == s.len() {
         Ok(o)
     } else {
-        Err(Refused(14))
+        Err(Placed(14, next as u32))
     }
 }
 
 /// How many operators a script has.
-pub fn script(s: &[u8]) -> Result<usize, Refused> {
+pub fn script(s: &[u8]) -> Result<usize, Placed> {
     byte(s, 0, 4, 4)?;
     for k in 1..5 {
         byte(s, k, 0, 96)?;
     }
     if s.len() < 7 {
-        return Err(Refused(3));
+        return Err(cut_short(s));
     }
     let n = s[5] as usize + 256 * s[6] as usize;
     if 1024 < n {
-        return Err(Refused(4));
+        return Err(Placed(4, 5));
     }
     let mut at = 7;
     for _ in 0..n {
@@ -96,6 +100,6 @@ pub fn script(s: &[u8]) -> Result<usize, Refused> {
     if at == s.len() {
         Ok(n)
     } else {
-        Err(Refused(14))
+        Err(Placed(14, at as u32))
     }
 }

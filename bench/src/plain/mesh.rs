@@ -2,9 +2,9 @@
 use super::form::{byte, made_form};
 use super::operators::make;
 use super::pattern::{check, column, times, Pattern, SIDE};
-use super::Refused;
+use super::{Placed, NO_PLACE};
 
-fn read(s: &[u8], p: &mut Pattern) -> Result<usize, Refused> {
+fn read(s: &[u8], p: &mut Pattern) -> Result<usize, Placed> {
     p.n = [byte(s, 0, 0, 96)? as u8, 0, 0, 0];
     let mut at = 1;
     for k in 1..4 {
@@ -19,16 +19,16 @@ fn read(s: &[u8], p: &mut Pattern) -> Result<usize, Refused> {
     Ok(at)
 }
 
-/// Bytes used and refusal; p is the pattern read, or empty.
-pub fn read_mesh(s: &[u8], p: &mut Pattern) -> (usize, u8) {
+/// Bytes used, refusal and place; p is the pattern read, or empty.
+pub fn read_mesh(s: &[u8], p: &mut Pattern) -> (usize, u8, u32) {
     for m in &mut p.m {
         m.fill(0);
     }
     match read(s, p) {
-        Ok(used) => (used, 0),
-        Err(Refused(r)) => {
+        Ok(used) => (used, 0, NO_PLACE),
+        Err(Placed(r, place)) => {
             *p = Pattern::empty();
-            (0, r)
+            (0, r, place)
         }
     }
 }

@@ -2,17 +2,17 @@
 use super::form;
 use super::operators::apply;
 use super::pattern::{check, Pattern};
-use super::Refused;
+use super::{answer, Placed, Refused, NO_PLACE};
 
-fn run(p: &mut Pattern, s: &[u8], again: bool, ran: &mut u16) -> Result<(), Refused> {
+fn run(p: &mut Pattern, s: &[u8], again: bool, ran: &mut u16) -> Result<(), Placed> {
     let n = form::script(s)?;
     if s[1..5] != p.n {
-        return Err(Refused(13));
+        return Err(Refused(13).into());
     }
     let mut at = 7;
     for _ in 0..n {
         if again && check(p) != 0 {
-            return Err(Refused(2));
+            return Err(Refused(2).into());
         }
         let (o, next) = form::operator(s, at)?;
         apply(p, o, s)?;
@@ -22,26 +22,27 @@ fn run(p: &mut Pattern, s: &[u8], again: bool, ran: &mut u16) -> Result<(), Refu
     Ok(())
 }
 
-/// Operators run and refusal. `again` tests the pattern at every operator.
-pub fn run_script(p: &mut Pattern, s: &[u8], again: bool) -> (u16, u8) {
+/// Operators run, refusal and place. `again` tests the pattern at every operator.
+pub fn run_script(p: &mut Pattern, s: &[u8], again: bool) -> (u16, u8, u32) {
     if 24576 < s.len() {
-        return (0, 1);
+        return (0, 1, NO_PLACE);
     }
     let refusal = check(p);
     if refusal != 0 {
-        return (0, refusal);
+        return (0, refusal, NO_PLACE);
     }
     let mut ran = 0;
-    let refusal = run(p, s, again, &mut ran).err().map_or(0, |r| r.0);
-    (ran, refusal)
+    let (refusal, place) = answer(run(p, s, again, &mut ran));
+    (ran, refusal, place)
 }
 
-pub fn apply_operator(p: &mut Pattern, s: &[u8]) -> u8 {
+/// Refusal and place.
+pub fn apply_operator(p: &mut Pattern, s: &[u8]) -> (u8, u32) {
     let refusal = check(p);
     if refusal != 0 {
-        return refusal;
+        return (refusal, NO_PLACE);
     }
-    form::lone_operator(s).and_then(|o| apply(p, o, s)).err().map_or(0, |r| r.0)
+    answer(form::lone_operator(s).and_then(|o| Ok(apply(p, o, s)?)))
 }
 
 pub fn euler(p: &Pattern) -> (i16, u8) {

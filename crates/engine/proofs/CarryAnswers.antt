@@ -15,7 +15,7 @@ use Rattle.rules.specs.declared.operator.Operator.{Operator}
 use Rattle.rules.specs.Refusals.{accepted, wrongLength, wrongForm, wrongChain}
 use Rattle.rules.specs.Counts.{countOf}
 use Rattle.rules.specs.Complex.{Pattern, complex}
-use Rattle.rules.specs.Form.{within, loneOperator, facesOf, faultNumber}
+use Rattle.rules.specs.Form.{within, loneOperator, facesOf, faultNumber, faultPlace}
 use Rattle.rules.specs.Chains.{isChain, carryLimit, carryStep}
 use Rattle.rules.specs.Calls.{Given, sizedChain, coefficients, carryCall, carriedBy}
 use Rattle.rules.proofs.branches.FirstTests.{both-passed}
@@ -100,9 +100,10 @@ module _ (p : Pattern) (s : List ℕ) (d : ℕ) (c out : List ℤ) where
         offered = and-both (le-leb 0 d (omega arith)) (le-leb d 3 h)
 
         -- 3, 4 or 14
-        pub carry-faulty : {r : ℕ} {f : Fault} → loneOperator s ≡ OperatorForm.Bad f → r ≡ faultNumber f → refusedBy out r ≡ carryCall p s d c out
+        pub carry-faulty : {r at : ℕ} {f : Fault} → loneOperator s ≡ OperatorForm.Bad f → r ≡ faultNumber f → at ≡ faultPlace f →
+            record { refusal = r; place = at; out = out } ≡ carryCall p s d c out
         unfolding tested carryCall
-        carry-faulty b q = rw (chains-sized p c out l t, both-passed p t .1, offered, b, q)
+        carry-faulty b q e = rw (chains-sized p c out l t, both-passed p t .1, offered, b, q, e)
 
         -- what carrying through the operator answers
         pub carry-done : {g : Given} {o : Operator} {next : ℕ} → loneOperator s ≡ OperatorForm.Decoded o next →

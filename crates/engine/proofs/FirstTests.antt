@@ -11,13 +11,13 @@ use Rattle.maths.proofs.Cases.{and-left, and-right}
 use Rattle.rules.specs.Refusals.{accepted, wrongLength, notGood}
 use Rattle.rules.specs.Complex.{Pattern, complex}
 use Rattle.rules.specs.Good.{isGood}
-use Rattle.rules.specs.Calls.{Given, sized, sizedChain}
+use Rattle.rules.specs.Calls.{Given, given, sized, sizedChain}
 use Rattle.rules.proofs.branches.FirstTests.{both-passed, first-refused}
 use Rattle.good.specs.Tested.{tested}
 
 -- a call with a chain is refused by r
 abbrev pub refusedBy : List ℤ → ℕ → Given
-refusedBy out r = record { refusal = r; out = out }
+refusedBy out r = given r out
 
 -- the two lengths of chains after those of the matrices
 short : (s a b : Bool) → a && b ≡ false → s && a && b ≡ false

@@ -5,19 +5,21 @@ use mathlib.Core.List.{List}
 use Prim.Native.Nat.{ℕ, _+_, _-_, _<_, _≤_}
 use native.Mathlib.Omega.{arith}
 use lib.IntN.{ℤ}
+use lib.ListN.{length}
 use Rattle.maths.proofs.Repeat as turns
 use Rattle.rules.specs.declared.answers.Applied.{Applied}
 use Rattle.rules.specs.declared.form.Fault.{Fault}
 use Rattle.rules.specs.declared.form.OperatorForm.{OperatorForm}
 use Rattle.rules.specs.declared.operator.Operator.{Operator}
-use Rattle.rules.specs.Refusals.{accepted}
+use Rattle.rules.specs.Refusals.{accepted, noPlace}
 use Rattle.rules.specs.Complex.{Pattern, complex, pattern, countsOf, stored}
 use Rattle.rules.specs.Operators.{step}
-use Rattle.rules.specs.Form.{operatorAt, facesOf, faultNumber}
+use Rattle.rules.specs.Form.{operatorAt, facesOf, faultNumber, faultPlace}
 use Rattle.rules.specs.Script.{ended, runOne, runFrom}
-use Rattle.rules.specs.Calls.{lent, applied, operatorLeft}
+use Rattle.rules.specs.Calls.{lent, applied, appliedLeft}
 use Rattle.rules.specs.Good.{Held}
 use Rattle.rules.proofs.branches.Numbers.{fault-numbered}
+use Rattle.rules.proofs.bytes.Faults.{operator-lies, operator-fault}
 use Rattle.rules.proofs.calls.Left.{applied-held}
 use Rattle.operators.proofs.patterns.Answered.{answer-accepted, answer-refused}
 use Rattle.engine.specs.Source.{ReadFrom}
@@ -26,13 +28,18 @@ use Rattle.engine.proofs.Shapes.{operator-formed}
 
 -- the operator at `at`
 module _ (s : List ℕ) (at : ℕ) (p : Pattern) (H : Held p) where
-  pub turn-faulty : {f : Fault} {next refusal : ℕ} → operatorAt s at ≡ OperatorForm.Bad f → refusal ≡ faultNumber f → OperatorRun s at p next refusal p
+  pub turn-faulty : {f : Fault} {next refusal place : ℕ} → operatorAt s at ≡ OperatorForm.Bad f → refusal ≡ faultNumber f → place ≡ faultPlace f →
+      OperatorRun s at p next refusal place p
   unfolding runOne
-  turn-faulty {f} b q = record {
+  turn-faulty {f} b q l = record {
     held = H;
     goes = λ e. absurd (fault-numbered f (sym q ∙ e));
-    ends = λ n ran go. rw (b, q);
+    ends = λ n ran go. rw (b, q, l);
   }
+
+  -- its place is one of a script's
+  pub turn-place : {f : Fault} → length s ≤ 24576 → operatorAt s at ≡ OperatorForm.Bad f → faultPlace f ≤ 24576
+  turn-place {f} h b = omega (arith, operator-fault s (operatorAt s at) (operator-lies s at) b .inside)
 
   module _ {o : Operator} {next : ℕ} (d : operatorAt s at ≡ OperatorForm.Decoded o next) where
     pub source : ReadFrom s o
@@ -42,11 +49,11 @@ module _ (s : List ℕ) (at : ℕ) (p : Pattern) (H : Held p) where
       -- a refused operator leaves the pattern as it was
       unchanged : a .refusal ≢ accepted → pattern (a .counts) m1 m2 m3 ≡ p
       unchanged n =
-          ap operatorLeft
+          ap appliedLeft
           (e ∙ answer-refused p s o e (λ r. lent (record { counts = p .counts; refusal = r }) p)
           (λ Y. lent (record { counts = countsOf Y; refusal = accepted }) (stored Y)) n)
 
-      pub turn-done : OperatorRun s at p next (a .refusal) (pattern (a .counts) m1 m2 m3)
+      pub turn-done : OperatorRun s at p next (a .refusal) noPlace (pattern (a .counts) m1 m2 m3)
       unfolding runOne
       turn-done = record {
         held = applied-held H s o (operator-formed source) e;
@@ -65,11 +72,11 @@ module _ (s : List ℕ) (n : ℕ) (p : Pattern) where
     pub few : n ≤ 1024
     pub rest : runFrom s n' (here (complex q) (n - n') place) ≡ runFrom s n (here (complex p) 0 7)
 
-  pub run-starts : Runnable n p → OperatorsLeft n 7 p
+  pub run-starts : Runnable n s p → OperatorsLeft n 7 p
   run-starts R = record { held = R .held; upto = omega arith; few = R .few; rest = ap (λ ran. runFrom s n (here (complex p) ran 7)) (omega arith) }
 
   module _ {n' place : ℕ} {q : Pattern} (U : OperatorsLeft n' place q) where
-    module _ {next refusal : ℕ} {q' : Pattern} (T : OperatorRun s place q next refusal q') (h : 0 < n') where
+    module _ {next refusal fault : ℕ} {q' : Pattern} (T : OperatorRun s place q next refusal fault q') (h : 0 < n') where
       pub run-more : refusal ≡ accepted → OperatorsLeft (n' - 1) next q'
       unfolding runFrom
       run-more e = record {
@@ -80,14 +87,14 @@ module _ (s : List ℕ) (n : ℕ) (p : Pattern) where
             ∙ turns.turned (runOne s) _ (here (complex q) (n - n') place) h (T .goes e (n - n')) ∙ U .rest;
       }
 
-      pub run-stops : refusal ≢ accepted → RunTo s n p (n - n') refusal q'
+      pub run-stops : refusal ≢ accepted → RunTo s n p (n - n') refusal fault q'
       unfolding runFrom
       run-stops e = record {
         held = T .held;
         is = turns.stopped (runOne s) _ (here (complex q) (n - n') place) h (T .ends e (n - n')) ∙ U .rest;
       }
 
-    pub run-ends : n' ≡ 0 → RunTo s n p n accepted q
+    pub run-ends : n' ≡ 0 → RunTo s n p n accepted noPlace q
     unfolding runFrom
     run-ends z = record {
       held = U .held;

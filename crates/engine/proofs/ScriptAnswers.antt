@@ -14,14 +14,15 @@ use Rattle.maths.proofs.Cases.{bool-or}
 use Rattle.rules.specs.declared.answers.ScriptRun.{ScriptRun}
 use Rattle.rules.specs.declared.form.Fault.{Fault}
 use Rattle.rules.specs.declared.form.Field.{Field}
-use Rattle.rules.specs.Refusals.{accepted, wrongLength, stale}
+use Rattle.rules.specs.Refusals.{accepted, wrongLength, stale, noPlace}
 use Rattle.rules.specs.Counts.{countOf}
 use Rattle.rules.specs.Complex.{Pattern, complex, countsOf, stored, Sized}
-use Rattle.rules.specs.Form.{operatorAt, byteAt, wordAt, countsAt, operatorsAt, scriptForm, faultNumber}
-use Rattle.rules.specs.Script.{Ended, ended, runFrom, sameBase, runScript}
+use Rattle.rules.specs.Form.{operatorAt, byteAt, wordAt, countsAt, operatorsAt, scriptForm, faultNumber, faultPlace}
+use Rattle.rules.specs.Script.{Ended, ended, endedAt, runFrom, sameBase, runScript}
 use Rattle.rules.specs.Calls.{Lent, lent, sized, runCall}
 use Rattle.rules.proofs.branches.FirstTests.{both-passed, first-refused}
 use Rattle.rules.proofs.bytes.Fields.{bad-field, after-got, after-operator, word-says}
+use Rattle.rules.proofs.bytes.Faults.{script-lies, field-fault}
 use Rattle.rules.proofs.storage.Stored.{stored-complex}
 use Rattle.good.specs.Tested.{tested}
 use Rattle.engine.specs.Running.{here, RunTo}
@@ -49,17 +50,19 @@ module _ (s : List ℕ) where
 
 -- how a run is answered
 abbrev pub answered : Ended → Lent ScriptRun
-answered e = lent (record { counts = countsOf (e .now); ran = e .ran; refusal = e .refusal }) (stored (e .now))
+answered e = lent (record { counts = countsOf (e .now); ran = e .ran; refusal = e .refusal; place = e .place }) (stored (e .now))
 
 -- that is, by the pattern that is held
-held-answer : {q : Pattern} (ran refusal : ℕ) → Sized q →
-    lent (record { counts = q .counts; ran = ran; refusal = refusal }) q ≡ answered (ended (complex q) ran refusal)
-held-answer {q} ran refusal S = ap (λ (x : Pattern). lent (record { counts = x .counts; ran = ran; refusal = refusal }) x) (sym (stored-complex q S))
+abbrev scriptAnswer : Pattern → ℕ → ℕ → ℕ → Lent ScriptRun
+scriptAnswer q ran refusal place = lent (record { counts = q .counts; ran = ran; refusal = refusal; place = place }) q
+
+held-answer : {q : Pattern} (ran refusal place : ℕ) → Sized q → scriptAnswer q ran refusal place ≡ answered (endedAt (complex q) ran refusal place)
+held-answer {q} ran refusal place S = ap (λ (x : Pattern). scriptAnswer x ran refusal place) (sym (stored-complex q S))
 
 module _ (p : Pattern) (s : List ℕ) where
   -- a call refused by r runs nothing
   abbrev idle : ℕ → Lent ScriptRun
-  idle r = lent (record { counts = p .counts; ran = 0; refusal = r }) p
+  idle r = scriptAnswer p 0 r noPlace
 
   -- 1, by the script
   pub too-long : 24576 < length s → idle wrongLength ≡ runCall p s
@@ -72,6 +75,10 @@ module _ (p : Pattern) (s : List ℕ) where
     unfolding tested runCall
     run-not-good e n = rw (le-leb (length s) 24576 short, and-true (sized p)) (first-refused p idle _ e n)
 
+    -- the place of a fault is one of its bytes
+    pub script-place : {f : Fault} → scriptForm s ≡ Field.Bad f → faultPlace f ≤ 24576
+    script-place b = omega (arith, field-fault s (scriptForm s) (script-lies s) b .inside)
+
     module _ (four : length (p .counts .n) ≡ 4) (e : tested p ≡ accepted) where
       -- what the script answers on a good pattern
       as-script : answered (runScript s (complex p)) ≡ runCall p s
@@ -82,12 +89,12 @@ module _ (p : Pattern) (s : List ℕ) where
       sizes = held p four e .sized
 
       -- 3, 4 or 14
-      faulty : {r : ℕ} {f : Fault} → scriptForm s ≡ Field.Bad f → r ≡ faultNumber f → ended (complex p) 0 r ≡ runScript s (complex p)
+      faulty : {r at : ℕ} {f : Fault} → scriptForm s ≡ Field.Bad f → r ≡ faultNumber f → at ≡ faultPlace f → endedAt (complex p) 0 r at ≡ runScript s (complex p)
       unfolding runScript
-      faulty b q = rw (b, q)
+      faulty b q l = rw (b, q, l)
 
-      pub run-faulty : {r : ℕ} {f : Fault} → scriptForm s ≡ Field.Bad f → r ≡ faultNumber f → idle r ≡ runCall p s
-      run-faulty {r} b q = held-answer 0 r sizes ∙ ap answered (faulty b q) ∙ as-script
+      pub run-faulty : {r at : ℕ} {f : Fault} → scriptForm s ≡ Field.Bad f → r ≡ faultNumber f → at ≡ faultPlace f → scriptAnswer p 0 r at ≡ runCall p s
+      run-faulty {r} {at} b q l = held-answer 0 r at sizes ∙ ap answered (faulty b q l) ∙ as-script
 
       module _ {n : ℕ} (d : scriptForm s ≡ Field.Got n) {same : Bool}
           (is : same ≡ all 4 (λ k. eqb (getD s (k + 1) 0) (countOf (p .counts) k))) where
@@ -101,13 +108,12 @@ module _ (p : Pattern) (s : List ℕ) where
         other t = rw (d, base-is ∙ t)
 
         pub run-stale : same ≡ false → idle stale ≡ runCall p s
-        run-stale t = held-answer 0 stale sizes ∙ ap answered (other t) ∙ as-script
+        run-stale t = held-answer 0 stale noPlace sizes ∙ ap answered (other t) ∙ as-script
 
         -- the operators run
         whole : same ≡ true → runFrom s n (here (complex p) 0 7) ≡ runScript s (complex p)
         unfolding runScript
         whole t = rw (d, base-is ∙ t)
 
-        pub run-done : {ran refusal : ℕ} {q : Pattern} → same ≡ true → RunTo s n p ran refusal q →
-            lent (record { counts = q .counts; ran = ran; refusal = refusal }) q ≡ runCall p s
-        run-done {ran} {refusal} t R = held-answer ran refusal (R .held .sized) ∙ ap answered (R .is ∙ whole t) ∙ as-script
+        pub run-done : {ran refusal place : ℕ} {q : Pattern} → same ≡ true → RunTo s n p ran refusal place q → scriptAnswer q ran refusal place ≡ runCall p s
+        run-done {ran} {refusal} {place} t R = held-answer ran refusal place (R .held .sized) ∙ ap answered (R .is ∙ whole t) ∙ as-script

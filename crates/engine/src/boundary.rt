@@ -4,7 +4,7 @@ ghost use lib.IntN.{pos, _+ℤ_, _*ℤ_};
 ghost use lib.ListN.{length};
 ghost use Rattle.maths.specs.Tables.{table};
 ghost use Rattle.grid.specs.Grid.{run, plus};
-ghost use Rattle.rules.specs.Calls.{boundaryCall};
+ghost use Rattle.rules.specs.Calls.{given, boundaryCall};
 ghost use Rattle.rules.specs.Lending.{atEntry};
 ghost use Rattle.engine.specs.Boundaries.{product, matrixOf, Term, Terms, Factors};
 use crate::chains::is_chain;
@@ -83,7 +83,7 @@ pub fn boundary(
     chain: &[i32],
     out: &mut [i32],
 ) -> u8
-    ensures { λ r. ⌜ record { refusal = r; out = now (out .exit) } ≡ boundaryCall (atEntry c m1 m2 m3) d (now (chain .entry)) (now (out .entry)) ⌝ }
+    ensures { λ r. ⌜ given r (now (out .exit)) ≡ boundaryCall (atEntry c m1 m2 m3) d (now (chain .entry)) (now (out .entry)) ⌝ }
 {
     if !((chain.len() == SIDE) & (out.len() == SIDE)) {
         return WRONG_LENGTH;

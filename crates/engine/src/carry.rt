@@ -3,11 +3,12 @@ ghost use mathlib.Core.Path.{_≡_};
 ghost use Prim.Native.Nat.{_≤_};
 ghost use lib.IntN.{natAbs, negℤ};
 ghost use Rattle.maths.specs.Tables.{table};
+ghost use Rattle.rules.specs.Refusals.{noPlace};
 ghost use Rattle.rules.specs.Complex.{complex};
 ghost use Rattle.rules.specs.Operators.{step};
 ghost use Rattle.rules.specs.Form.{facesOf};
 ghost use Rattle.rules.specs.Chains.{carryLimit, carryStep};
-ghost use Rattle.rules.specs.Calls.{coefficients, carryCall, carriedBy};
+ghost use Rattle.rules.specs.Calls.{given, coefficients, carryCall, carriedBy};
 ghost use Rattle.rules.specs.Lending.{asLent, atEntry};
 ghost use Rattle.rules.specs.Good.{Held};
 ghost use Rattle.engine.specs.Source.{ReadFrom};
@@ -15,16 +16,19 @@ ghost use Rattle.engine.specs.Carrying.{numberOf, rewritten, Rewritable,
 use crate::apply::apply;
 use crate::chains::copy_chain;
 use crate::chains::is_chain;
+use form::fields::place_of;
 use form::fields::refusal_of;
 use form::operators::form_of_operator;
 use good::refusal_of_pattern;
 use grid::changes::copy_all;
 use maths::SIDE;
 use maths::SIZE;
+use rules::answers::ChainCarried;
 use rules::counts::Counts;
 use rules::form::OperatorForm;
 use rules::operator::Operator;
 use rules::refusals::ACCEPTED;
+use rules::refusals::NO_PLACE;
 use rules::refusals::NOT_CARRIED;
 use rules::refusals::WRONG_CHAIN;
 use rules::refusals::WRONG_FORM;
@@ -114,7 +118,7 @@ fn carry_through(
     out: &mut [i32],
 ) -> u8
     requires { ⌜ Carriable (asLent c m1 m2 m3) (now s) o d (now chain) (now out) ⌝ }
-    ensures { λ r. ⌜ record { refusal = r; out = now (out .exit) } ≡ carriedBy (atEntry c m1 m2 m3) (now (s .entry)) o d (now (chain .entry)) (now (out .entry)) ⌝ }
+    ensures { λ r. ⌜ given r (now (out .exit)) ≡ carriedBy (atEntry c m1 m2 m3) (now (s .entry)) o d (now (chain .entry)) (now (out .entry)) ⌝ }
 {
     let refusal = refusal_of_carrying(c, o, s, m1, m2, m3);
     if refusal != ACCEPTED {
@@ -128,6 +132,16 @@ fn carry_through(
     ACCEPTED
 }
 
+// An answer that has no place.
+fn unplaced(refusal: u8) -> ChainCarried
+    ensures { λ r. ⌜ r ≡ record { refusal = refusal; place = noPlace } ⌝ }
+{
+    ChainCarried {
+        refusal,
+        place: NO_PLACE,
+    }
+}
+
 // The chain carried through the operator of which s are the bytes, or a refusal by 1, 2, 4, the bytes' form, 17, the operator's own or 16, in this order,
 // and then nothing is changed.
 pub fn carry(
@@ -139,21 +153,27 @@ pub fn carry(
     d: u8,
     chain: &[i32],
     out: &mut [i32],
-) -> u8
-    ensures { λ r. ⌜ record { refusal = r; out = now (out .exit) } ≡ carryCall (atEntry c m1 m2 m3) (now (s .entry)) d (now (chain .entry)) (now (out .entry)) ⌝ }
+) -> ChainCarried
+    ensures { λ r. ⌜ record { refusal = r .refusal; place = r .place; out = now (out .exit) } ≡ carryCall (atEntry c m1 m2 m3) (now (s .entry)) d (now (chain .entry)) (now (out .entry)) ⌝ }
 {
     if !((chain.len() == SIDE) & (out.len() == SIDE)) {
-        return WRONG_LENGTH;
+        return unplaced(WRONG_LENGTH);
     }
     let refusal = refusal_of_pattern(c, m1, m2, m3);
     if refusal != ACCEPTED {
-        return refusal;
+        return unplaced(refusal);
     }
     if 3 < d {
-        return WRONG_FORM;
+        return unplaced(WRONG_FORM);
     }
     match form_of_operator(s) {
-        OperatorForm::Bad(f) => refusal_of(f),
-        OperatorForm::Decoded(o, _) => carry_through(c, o, s, m1, m2, m3, d, chain, out),
+        OperatorForm::Bad(f) => ChainCarried {
+            refusal: refusal_of(f),
+            place: place_of(f) as u32,
+        },
+        OperatorForm::Decoded(o, _) => {
+            let refusal = carry_through(c, o, s, m1, m2, m3, d, chain, out);
+            unplaced(refusal)
+        }
     }
 }

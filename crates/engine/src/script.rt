@@ -1,6 +1,6 @@
 // A script's operators, one after another.
 ghost use mathlib.Core.Path.{_≡_};
-ghost use Prim.Native.Nat.{_+_, _<_};
+ghost use Prim.Native.Nat.{_+_, _<_, _≤_};
 ghost use lib.Dec.{eqb};
 ghost use lib.ListN.{length, getD};
 ghost use Rattle.maths.specs.Tests.{all};
@@ -9,18 +9,21 @@ ghost use Rattle.rules.specs.Lending.{asLent, atEntry, atExit};
 ghost use Rattle.rules.specs.Good.{Held};
 ghost use Rattle.engine.specs.Running.{Runnable, OperatorRun, RunTo};
 use crate::apply::apply;
+use form::fields::place_of;
 use form::fields::refusal_of;
 use form::operators::read_operator;
 use rules::answers::ScriptRun;
 use rules::counts::Counts;
 use rules::form::OperatorForm;
 use rules::refusals::ACCEPTED;
+use rules::refusals::NO_PLACE;
 
-// After one operator: the counts, the place after it, and its refusal.
+// After one operator: the counts, the place after it, its refusal, and the place of a fault.
 struct OneRun {
     counts: Counts,
     next: usize,
     refusal: u8,
+    place: u32,
 }
 
 // Whether the base counts of a script are c.
@@ -34,13 +37,15 @@ pub(crate) fn same_base(c: Counts, s: &[u8]) -> bool
 // The operator at `at`.
 fn run_one(c: Counts, s: &[u8], at: usize, m1: &mut [i8], m2: &mut [i8], m3: &mut [i8]) -> OneRun
     requires { ⌜ Held (asLent c m1 m2 m3) ⌝ }
-    ensures { λ r. ⌜ OperatorRun (now (s .entry)) at (atEntry c m1 m2 m3) (r .next) (r .refusal) (atExit (r .counts) m1 m2 m3) ⌝ }
+    requires { ⌜ length (now s) ≤ 24576 ⌝ }
+    ensures { λ r. ⌜ OperatorRun (now (s .entry)) at (atEntry c m1 m2 m3) (r .next) (r .refusal) (r .place) (atExit (r .counts) m1 m2 m3) ⌝ }
 {
     match read_operator(s, at) {
         OperatorForm::Bad(f) => OneRun {
             counts: c,
             next: at,
             refusal: refusal_of(f),
+            place: place_of(f) as u32,
         },
         OperatorForm::Decoded(o, next) => {
             let done = apply(c, o, s, m1, m2, m3);
@@ -49,6 +54,7 @@ fn run_one(c: Counts, s: &[u8], at: usize, m1: &mut [i8], m2: &mut [i8], m3: &mu
                 counts,
                 next,
                 refusal: done.refusal,
+                place: NO_PLACE,
             }
         }
     }
@@ -63,8 +69,8 @@ pub(crate) fn run_operators(
     m2: &mut [i8],
     m3: &mut [i8],
 ) -> ScriptRun
-    requires { ⌜ Runnable n (asLent c m1 m2 m3) ⌝ }
-    ensures { λ r. ⌜ RunTo (now (s .entry)) n (atEntry c m1 m2 m3) (r .ran) (r .refusal) (atExit (r .counts) m1 m2 m3) ⌝ }
+    requires { ⌜ Runnable n (now s) (asLent c m1 m2 m3) ⌝ }
+    ensures { λ r. ⌜ RunTo (now (s .entry)) n (atEntry c m1 m2 m3) (r .ran) (r .refusal) (r .place) (atExit (r .counts) m1 m2 m3) ⌝ }
 {
     let mut counts = c;
     let mut place: usize = 7;
@@ -78,6 +84,7 @@ pub(crate) fn run_operators(
                 counts,
                 ran: (n - left) as u16,
                 refusal: one.refusal,
+                place: one.place,
             };
         }
         place = one.next;
@@ -87,5 +94,6 @@ pub(crate) fn run_operators(
         counts,
         ran: n as u16,
         refusal: ACCEPTED,
+        place: NO_PLACE,
     }
 }

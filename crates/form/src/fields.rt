@@ -5,7 +5,7 @@ use rules::refusals::BYTES_END;
 use rules::refusals::BYTES_LEFT;
 use rules::refusals::WRONG_FORM;
 ghost use mathlib.Core.Path.{_≡_};
-ghost use Rattle.rules.specs.Form.{byteAt, wordAt, faultNumber};
+ghost use Rattle.rules.specs.Form.{byteAt, wordAt, faultNumber, faultPlace};
 
 // The byte at `at`, to be from `low` to `high`.
 pub fn byte_form(s: &[u8], at: usize, low: usize, high: usize) -> Field
@@ -50,5 +50,16 @@ pub fn refusal_of(f: Fault) -> u8
         Fault::Ends(_) => BYTES_END,
         Fault::Wrong(_) => WRONG_FORM,
         Fault::Left(_) => BYTES_LEFT,
+    }
+}
+
+// And its place.
+pub fn place_of(f: Fault) -> usize
+    ensures { λ r. ⌜ r ≡ faultPlace f ⌝ }
+{
+    match f {
+        Fault::Ends(at) => at,
+        Fault::Wrong(at) => at,
+        Fault::Left(at) => at,
     }
 }

@@ -30,15 +30,15 @@ pub decimal-one : (n : ℕ) → n < 10 → decimal n ≡ (48 + n) ∷ []
 unfolding decimal
 decimal-one n h = rw (lt-ltb n 10 h)
 
-pub decimal-more : (n : ℕ) → 10 ≤ n → n < 10000 → decimal n ≡ decimal (n / 10) ++ ((48 + n % 10) ∷ [])
+pub decimal-more : (n : ℕ) → 10 ≤ n → n < 100_000 → decimal n ≡ decimal (n / 10) ++ ((48 + n % 10) ∷ [])
 unfolding decimal
-decimal-more n l h = rw (le-ltb n 10 l, digits-more 2 (n / 10) (omega arith))
+decimal-more n l h = rw (le-ltb n 10 l, digits-more 3 (n / 10) (omega arith))
 
--- how long numbers below 1,000 and below 100 are
-pub decimal-3 : (n : ℕ) → n < 1000 → length (decimal n) ≤ 3
+-- how long numbers below 10,000 and below 100 are
+pub decimal-4 : (n : ℕ) → n < 10_000 → length (decimal n) ≤ 4
 unfolding decimal
-decimal-3 n h = rw (digits-more 2 n h) (digits-length 2 n)
+decimal-4 n h = rw (digits-more 3 n h) (digits-length 3 n)
 
 pub decimal-2 : (n : ℕ) → n < 100 → length (decimal n) ≤ 2
 unfolding decimal
-decimal-2 n h = rw (digits-more 2 n (omega arith), digits-more 1 n h) (digits-length 1 n)
+decimal-2 n h = rw (digits-more 3 n (omega arith), digits-more 2 n (omega arith), digits-more 1 n h) (digits-length 1 n)

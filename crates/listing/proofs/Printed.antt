@@ -7,7 +7,7 @@ use Rattle.rules.specs.Printed.{text, seamLine, cellLine, cellLines, listing, p
 use Rattle.listing.specs.Lines.{ranLine, cellsLine, eulerLine}
 
 -- the first line of a run, and the pattern after it
-pub printed-run : (e : Ended) → printedRun e ≡ ranLine (e .ran) (e .refusal) ++ listing (e .now)
+pub printed-run : (e : Ended) → printedRun e ≡ ranLine (e .ran) (e .refusal) (e .place) ++ listing (e .now)
 unfolding printedRun ranLine
 printed-run e = simp append-assoc
 

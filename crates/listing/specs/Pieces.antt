@@ -17,8 +17,8 @@ unfoldable pub columnLines : (ℕ → Chain → List ℕ) → ℕ → List ℤ �
 columnLines f n m = join n (λ j. f j (column m j))
 
 -- how a run ended, the counts, the Euler number and the seams
-unfoldable pub runText : ℕ → ℕ → Counts → ℤ → List ℤ → List ℕ
-runText ran refusal c z m = ranLine ran refusal ++ (cellsLine c ++ (eulerLine z ++ columnLines seamLine (countOf c 1) m))
+unfoldable pub runText : ℕ → ℕ → ℕ → Counts → ℤ → List ℤ → List ℕ
+runText ran refusal place c z m = ranLine ran refusal place ++ (cellsLine c ++ (eulerLine z ++ columnLines seamLine (countOf c 1) m))
 
 -- a stored matrix of n columns, and room for 96 lines of at most k bytes
 pub record LinesRoom (k : ℕ) (m : List ℤ) (n : ℕ) (out : List ℕ) (at : ℕ) : Type 0 where
@@ -27,6 +27,6 @@ pub record LinesRoom (k : ℕ) (m : List ℤ) (n : ℕ) (out : List ℕ) (at : �
 
 -- numbers that can be printed, and room for three lines and the seams
 pub record RunRoom (ran : ℕ) (c : Counts) (z : ℤ) (m : List ℤ) (out : List ℕ) : Type 0 where
-  pub ran-small : ran < 10000
-  pub euler-small : natAbs z < 10000
-  pub seams : LinesRoom 32 m (countOf c 1) out 96
+  pub ran-small : ran < 10_000
+  pub euler-small : natAbs z < 10_000
+  pub seams : LinesRoom 32 m (countOf c 1) out 104

@@ -1,13 +1,12 @@
 // Each line of the printed result, put at a place of a buffer; the answer is the place after it.
 ghost use mathlib.Core.List.{[], _∷_};
 ghost use Prim.Native.Nat.{_+_, _≤_};
-ghost use lib.IntN.{natAbs};
 ghost use lib.ListN.{length};
 ghost use Rattle.maths.specs.Tables.{column};
 ghost use Rattle.maths.specs.Buffers.{Put};
 ghost use Rattle.rules.specs.Mesh.{eachFace, oneFace};
-ghost use Rattle.rules.specs.Printed.{printedMesh, seamLine, signedFace, cellLine};
-ghost use Rattle.listing.specs.Lines.{ranLine, cellsLine, eulerLine, PutWithin, NumberRoom, ColumnRoom};
+ghost use Rattle.rules.specs.Printed.{placeText, printedMesh, seamLine, signedFace, cellLine};
+ghost use Rattle.listing.specs.Lines.{ranLine, cellsLine, eulerLine, PutWithin, NumberRoom, WholeRoom, PlaceSmall, ColumnRoom};
 use crate::numbers::put_field;
 use crate::numbers::put_labelled;
 use crate::numbers::put_whole;
@@ -16,23 +15,42 @@ use buffer::put_all;
 use grid::tests::column_last;
 use maths::SIDE;
 use rules::counts::Counts;
+use rules::refusals::BYTES_END;
+use rules::refusals::BYTES_LEFT;
+use rules::refusals::WRONG_FORM;
 
-// How many operators ran, and the refusal.
-pub(crate) fn line_ran(out: &mut [u8], at: usize, ran: u16, refusal: u8) -> usize
-    requires { ⌜ NumberRoom ran (now out) at 32 ⌝ }
-    ensures { λ next. ⌜ PutWithin 32 (now (out .entry)) at (ranLine ran refusal) next (now (out .exit)) ⌝ }
+// The place of a fault; of another refusal nothing.
+fn put_place(out: &mut [u8], at: usize, refusal: u8, place: u32) -> usize
+    requires { ⌜ at + 9 ≤ length (now out) ⌝ }
+    requires { ⌜ PlaceSmall refusal place ⌝ }
+    ensures { λ next. ⌜ PutWithin 9 (now (out .entry)) at (placeText refusal place) next (now (out .exit)) ⌝ }
+{
+    if (refusal == BYTES_END) | (refusal == WRONG_FORM) | (refusal == BYTES_LEFT) {
+        return put_labelled(out, at, b" at ", place as u16);
+    }
+    at
+}
+
+// How many operators ran, the refusal, and the place of a fault.
+pub(crate) fn line_ran(out: &mut [u8], at: usize, ran: u16, refusal: u8, place: u32) -> usize
+    requires { ⌜ NumberRoom ran (now out) at 40 ⌝ }
+    requires { ⌜ PlaceSmall refusal place ⌝ }
+    ensures { λ next. ⌜ PutWithin 40 (now (out .entry)) at (ranLine ran refusal place) next (now (out .exit)) ⌝ }
 {
     let mut next = put_labelled(out, at, b"ran ", ran);
     next = put_field(out, next, b" refusal ", refusal);
+    next = put_place(out, next, refusal, place);
     put(out, next, b'\n')
 }
 
-// The refusal of a mesh.
-pub fn line_mesh(out: &mut [u8], at: usize, refusal: u8) -> usize
+// The refusal of a mesh, and the place of a fault.
+pub fn line_mesh(out: &mut [u8], at: usize, refusal: u8, place: u32) -> usize
     requires { ⌜ at + 32 ≤ length (now out) ⌝ }
-    ensures { λ next. ⌜ PutWithin 32 (now (out .entry)) at (printedMesh refusal) next (now (out .exit)) ⌝ }
+    requires { ⌜ PlaceSmall refusal place ⌝ }
+    ensures { λ next. ⌜ PutWithin 32 (now (out .entry)) at (printedMesh refusal place) next (now (out .exit)) ⌝ }
 {
-    let next = put_field(out, at, b"mesh refusal ", refusal);
+    let mut next = put_field(out, at, b"mesh refusal ", refusal);
+    next = put_place(out, next, refusal, place);
     put(out, next, b'\n')
 }
 
@@ -50,7 +68,7 @@ pub(crate) fn line_cells(out: &mut [u8], at: usize, c: Counts) -> usize
 
 // The Euler number.
 pub(crate) fn line_euler(out: &mut [u8], at: usize, z: i16) -> usize
-    requires { ⌜ NumberRoom (natAbs z) (now out) at 32 ⌝ }
+    requires { ⌜ WholeRoom z (now out) at 32 ⌝ }
     ensures { λ next. ⌜ PutWithin 32 (now (out .entry)) at (eulerLine z) next (now (out .exit)) ⌝ }
 {
     let mut next = put_all(out, at, b"euler ");
@@ -73,7 +91,7 @@ pub(crate) fn line_seam(out: &mut [u8], at: usize, j: usize, m: &[i8]) -> usize
 
 // Face i, whose entry is z: nothing where that is 0.
 fn put_face(out: &mut [u8], at: usize, i: u8, z: i8) -> usize
-    requires { ⌜ at + 6 ≤ length (now out) ⌝ }
+    requires { ⌜ at + 7 ≤ length (now out) ⌝ }
     ensures { λ next. ⌜ Put (now (out .entry)) at (oneFace signedFace i z) next (now (out .exit)) ⌝ }
 {
     if z < 0 {

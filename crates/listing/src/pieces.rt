@@ -2,6 +2,7 @@
 ghost use mathlib.Core.List.{[], _∷_};
 ghost use Rattle.maths.specs.Buffers.{Put};
 ghost use Rattle.rules.specs.Printed.{seamLine, cellLine};
+ghost use Rattle.listing.specs.Lines.{PlaceSmall};
 ghost use Rattle.listing.specs.Pieces.{columnLines, runText, LinesRoom, RunRoom};
 use crate::lines::line_cell;
 use crate::lines::line_cells;
@@ -23,12 +24,21 @@ fn put_seams(out: &mut [u8], at: usize, n: u8, m: &[i8]) -> usize
 }
 
 // How a run ended, the counts, the Euler number and the seams.
-pub fn put_run(out: &mut [u8], ran: u16, refusal: u8, c: Counts, z: i16, m: &[i8]) -> usize
+pub fn put_run(
+    out: &mut [u8],
+    ran: u16,
+    refusal: u8,
+    place: u32,
+    c: Counts,
+    z: i16,
+    m: &[i8],
+) -> usize
     requires { ⌜ RunRoom ran c z (now m) (now out) ⌝ }
-    ensures { λ next. ⌜ Put (now (out .entry)) 0 (runText ran refusal c z (now (m .entry))) next (now (out .exit)) ⌝ }
+    requires { ⌜ PlaceSmall refusal place ⌝ }
+    ensures { λ next. ⌜ Put (now (out .entry)) 0 (runText ran refusal place c z (now (m .entry))) next (now (out .exit)) ⌝ }
 {
     let n = c.n;
-    let mut next = line_ran(out, 0, ran, refusal);
+    let mut next = line_ran(out, 0, ran, refusal, place);
     next = line_cells(out, next, c);
     next = line_euler(out, next, z);
     put_seams(out, next, n[1], m)

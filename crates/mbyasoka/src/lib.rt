@@ -1,7 +1,7 @@
 // The engine for C and Rust: numbers, arrays of four counts, and slices, each a pointer and then a length.
 ghost use mathlib.Core.Path.{_≡_};
 ghost use Rattle.rules.specs.Complex.{countsOf, empty};
-ghost use Rattle.rules.specs.Calls.{readCall, writeCall, eulerCall, applyCall, runCall, boundaryCall, carryCall};
+ghost use Rattle.rules.specs.Calls.{readCall, writeCall, eulerCall, applyCall, runCall, given, boundaryCall, carryCall};
 ghost use Rattle.rules.specs.Lending.{atEntry, left};
 ghost use Rattle.good.specs.Tested.{tested};
 ghost use Rattle.mbyasoka.specs.Places.{patternLent, countsLeft};
@@ -24,7 +24,7 @@ pub extern "C" fn mbyasoka_check(counts: &[u8; 4], m1: &[i8], m2: &[i8], m3: &[i
     refusal_of_pattern(c, m1, m2, m3)
 }
 
-// Reads a mesh from the front of the bytes: the refusal, the counts, and how many bytes it took.
+// Reads a mesh from the front of the bytes: the refusal, the counts, how many bytes it took, and the place of a fault.
 #[no_mangle]
 pub extern "C" fn mbyasoka_read_mesh(
     counts: &mut [u8; 4],
@@ -33,14 +33,16 @@ pub extern "C" fn mbyasoka_read_mesh(
     m3: &mut [i8],
     s: &[u8],
     used: &mut usize,
+    place: &mut u32,
 ) -> u8
-    ensures { λ r. ⌜ left (record { counts = countsLeft counts; used = now (used .exit); refusal = r }) m1 m2 m3 ≡ readCall (now (s .entry)) (atEntry (countsOf empty) m1 m2 m3) ⌝ }
+    ensures { λ r. ⌜ left (record { counts = countsLeft counts; used = now (used .exit); refusal = r; place = now (place .exit) }) m1 m2 m3 ≡ readCall (now (s .entry)) (atEntry (countsOf empty) m1 m2 m3) ⌝ }
 {
     let answer = read_mesh(s, m1, m2, m3);
     let c = answer.counts;
     let n = c.n;
     *counts = n;
     *used = answer.used;
+    *place = answer.place;
     answer.refusal
 }
 
@@ -80,7 +82,7 @@ pub extern "C" fn mbyasoka_euler(
     answer.refusal
 }
 
-// One operator, of which s are the bytes, on the pattern: the refusal, and the counts after it.
+// One operator, of which s are the bytes, on the pattern: the refusal, the counts after it, and the place of a fault.
 #[no_mangle]
 pub extern "C" fn mbyasoka_apply_operator(
     counts: &mut [u8; 4],
@@ -88,18 +90,21 @@ pub extern "C" fn mbyasoka_apply_operator(
     m2: &mut [i8],
     m3: &mut [i8],
     s: &[u8],
+    place: &mut u32,
 ) -> u8
-    ensures { λ r. ⌜ left (record { counts = countsLeft counts; refusal = r }) m1 m2 m3 ≡ applyCall (patternLent counts m1 m2 m3) (now (s .entry)) ⌝ }
+    ensures { λ r. ⌜ left (record { counts = countsLeft counts; refusal = r; place = now (place .exit) }) m1 m2 m3 ≡ applyCall (patternLent counts m1 m2 m3) (now (s .entry)) ⌝ }
 {
     let c = Counts { n: *counts };
     let answer = apply_operator(c, m1, m2, m3, s);
     let after = answer.counts;
     let n = after.n;
     *counts = n;
+    *place = answer.place;
     answer.refusal
 }
 
-// The script s on the pattern, up to the first refusal: that refusal, the counts after it, and how many operators were accepted.
+// The script s on the pattern, up to the first refusal: that refusal, the counts after it, how many operators were accepted, and
+// the place of a fault.
 #[no_mangle]
 pub extern "C" fn mbyasoka_run_script(
     counts: &mut [u8; 4],
@@ -108,8 +113,9 @@ pub extern "C" fn mbyasoka_run_script(
     m3: &mut [i8],
     s: &[u8],
     ran: &mut u16,
+    place: &mut u32,
 ) -> u8
-    ensures { λ r. ⌜ left (record { counts = countsLeft counts; ran = now (ran .exit); refusal = r }) m1 m2 m3 ≡ runCall (patternLent counts m1 m2 m3) (now (s .entry)) ⌝ }
+    ensures { λ r. ⌜ left (record { counts = countsLeft counts; ran = now (ran .exit); refusal = r; place = now (place .exit) }) m1 m2 m3 ≡ runCall (patternLent counts m1 m2 m3) (now (s .entry)) ⌝ }
 {
     let c = Counts { n: *counts };
     let answer = run_script(c, m1, m2, m3, s);
@@ -117,6 +123,7 @@ pub extern "C" fn mbyasoka_run_script(
     let n = reached.n;
     *counts = n;
     *ran = answer.ran;
+    *place = answer.place;
     answer.refusal
 }
 
@@ -131,13 +138,13 @@ pub extern "C" fn mbyasoka_boundary(
     chain: &[i32],
     out: &mut [i32],
 ) -> u8
-    ensures { λ r. ⌜ record { refusal = r; out = now (out .exit) } ≡ boundaryCall (patternLent counts m1 m2 m3) d (now (chain .entry)) (now (out .entry)) ⌝ }
+    ensures { λ r. ⌜ given r (now (out .exit)) ≡ boundaryCall (patternLent counts m1 m2 m3) d (now (chain .entry)) (now (out .entry)) ⌝ }
 {
     let c = Counts { n: *counts };
     boundary(c, m1, m2, m3, d, chain, out)
 }
 
-// The chain carried through one operator, of which s are the bytes; the pattern stays as it is.
+// The chain carried through one operator, of which s are the bytes; the pattern stays as it is. The refusal, and the place of a fault.
 #[no_mangle]
 pub extern "C" fn mbyasoka_carry(
     counts: &[u8; 4],
@@ -148,9 +155,12 @@ pub extern "C" fn mbyasoka_carry(
     d: u8,
     chain: &[i32],
     out: &mut [i32],
+    place: &mut u32,
 ) -> u8
-    ensures { λ r. ⌜ record { refusal = r; out = now (out .exit) } ≡ carryCall (patternLent counts m1 m2 m3) (now (s .entry)) d (now (chain .entry)) (now (out .entry)) ⌝ }
+    ensures { λ r. ⌜ record { refusal = r; place = now (place .exit); out = now (out .exit) } ≡ carryCall (patternLent counts m1 m2 m3) (now (s .entry)) d (now (chain .entry)) (now (out .entry)) ⌝ }
 {
     let c = Counts { n: *counts };
-    carry(c, m1, m2, m3, s, d, chain, out)
+    let answer = carry(c, m1, m2, m3, s, d, chain, out);
+    *place = answer.place;
+    answer.refusal
 }

@@ -7,15 +7,15 @@ use lib.IntN.{ℤ}
 use Rattle.maths.specs.Repeat.{repeat}
 use Rattle.maths.proofs.Repeat.{repeat-ended, turned, stopped}
 use Rattle.rules.specs.declared.answers.Applied.{Applied}
-use Rattle.rules.specs.declared.answers.MeshRead.{MeshRead}
+use Rattle.rules.specs.declared.counts.Counts.{Counts}
 use Rattle.rules.specs.declared.form.Fault.{Fault}
 use Rattle.rules.specs.declared.form.Field.{Field}
 use Rattle.rules.specs.declared.form.OperatorForm.{OperatorForm}
 use Rattle.rules.specs.declared.operator.Operator.{Operator}
-use Rattle.rules.specs.Refusals.{accepted}
+use Rattle.rules.specs.Refusals.{accepted, noPlace}
 use Rattle.rules.specs.Complex.{Pattern, pattern, complex}
 use Rattle.rules.specs.Operators.{makeStep, step}
-use Rattle.rules.specs.Form.{faultNumber, byteAt, makeAt, madeOf}
+use Rattle.rules.specs.Form.{byteAt, makeAt, madeOf}
 use Rattle.rules.specs.Mesh.{Reading, faulty, refused, Place, readCell, readSection}
 use Rattle.rules.specs.Calls.{lent, applied}
 use Rattle.rules.specs.Good.{Held}
@@ -24,24 +24,25 @@ use Rattle.rules.proofs.bytes.Decoded.{made}
 use Rattle.operators.specs.Column.{MakeForm}
 use Rattle.rules.proofs.calls.Left.{applied-held}
 use Rattle.operators.proofs.patterns.Answered.{answer-accepted, answer-refused}
-use Rattle.mesh.specs.Reading.{Readable, PartRead}
+use Rattle.mesh.specs.declared.part.Part.{Part}
+use Rattle.mesh.specs.Reading.{Readable, faultyPart, PartRead}
 
 -- a part that is a fault of the form
-pub faulted : {part : (Place → Reading) → Reading} {r : MeshRead} {q : Pattern} (f : Fault)
-    → Held q → r .refusal ≡ faultNumber f → ((go : Place → Reading) → part go ≡ faulty f) → PartRead part r q
-faulted f H e is = record {
+pub faulted : {part : (Place → Reading) → Reading} {r : Part} {c : Counts} {m1 m2 m3 : List ℤ} (f : Fault)
+    → Held (pattern c m1 m2 m3) → r ≡ faultyPart c f → ((go : Place → Reading) → part go ≡ faulty f) → PartRead part r (pattern (r .counts) m1 m2 m3)
+faulted f H e is = rw e (record {
   held = H;
-  goes = λ a. absurd (fault-numbered f (sym e ∙ a));
-  ends = λ _. record { last = faulty f; is = is; number = sym e };
-}
+  goes = λ a. absurd (fault-numbered f a);
+  ends = λ _. record { last = faulty f; is = is; refusal = refl };
+})
 
 -- a part told otherwise
-pub went-as : {part part' : (Place → Reading) → Reading} {r : MeshRead} {q : Pattern}
+pub went-as : {part part' : (Place → Reading) → Reading} {r : Part} {q : Pattern}
     → ((go : Place → Reading) → part go ≡ part' go) → PartRead part' r q → PartRead part r q
 went-as same W = record {
   held = W .held;
   goes = λ e go. same go ∙ W .goes e go;
-  ends = λ n. let E = W .ends n in record { last = E .last; is = λ go. same go ∙ E .is go; number = E .number };
+  ends = λ n. let E = W .ends n in record { last = E .last; is = λ go. same go ∙ E .is go; refusal = E .refusal };
 }
 
 module _ (s : List ℕ) (k at : ℕ) (p : Pattern) where
@@ -60,7 +61,7 @@ module _ (s : List ℕ) (k at : ℕ) (p : Pattern) where
     cell-form = record { most = R .dim; next = next; form = decoded }
 
     pub cell-went : {a : Applied} {m1 m2 m3 : List ℤ} → lent a (pattern (a .counts) m1 m2 m3) ≡ applied p (makeStep k (madeOf s k at) (complex p))
-        → PartRead cell (record { counts = a .counts; used = next; refusal = a .refusal }) (pattern (a .counts) m1 m2 m3)
+        → PartRead cell (record { counts = a .counts; next = next; refusal = a .refusal; place = noPlace }) (pattern (a .counts) m1 m2 m3)
     unfolding readCell step
     cell-went {a} e =
         let make = Operator.Make k at in
@@ -71,7 +72,7 @@ module _ (s : List ℕ) (k at : ℕ) (p : Pattern) where
           ends = λ n. record {
             last = refused (a .refusal);
             is = λ go. rw decoded (answer-refused p s make e refused (λ X. go (X, next)) n);
-            number = refl;
+            refusal = refl;
           };
         }
 
@@ -85,8 +86,8 @@ module _ (s : List ℕ) (k n : ℕ) (start : Place) where
     pub rest : (go : Place → Reading) → repeat (readCell s k) go left (complex p, place) ≡ cells go
 
   module _ {left place : ℕ} {p : Pattern} (U : CellsLeft left place p) where
-    module _ {r : MeshRead} {q : Pattern} (W : PartRead (readCell s k (complex p, place)) r q) (h : 0 < left) where
-      pub cells-more : r .refusal ≡ accepted → CellsLeft (left - 1) (r .used) q
+    module _ {r : Part} {q : Pattern} (W : PartRead (readCell s k (complex p, place)) r q) (h : 0 < left) where
+      pub cells-more : r .refusal ≡ accepted → CellsLeft (left - 1) (r .next) q
       cells-more e = record { held = W .held; rest = λ go. turned (readCell s k) go (complex p, place) h (W .goes e) ∙ U .rest go }
 
       pub cells-stop : r .refusal ≢ accepted → PartRead cells r q
@@ -96,11 +97,11 @@ module _ (s : List ℕ) (k n : ℕ) (start : Place) where
         ends = λ _. record {
           last = E .last;
           is = λ go. sym (U .rest go) ∙ sym (stopped (readCell s k) go (complex p, place) h (E .is));
-          number = E .number;
+          refusal = E .refusal;
         };
       }
 
-    pub cells-end : {r : MeshRead} → left ≡ 0 → r .refusal ≡ accepted → r .used ≡ place → PartRead cells r p
+    pub cells-end : {r : Part} → left ≡ 0 → r .refusal ≡ accepted → r .next ≡ place → PartRead cells r p
     cells-end z e u = record {
       held = U .held;
       goes = λ _ go. sym (U .rest go) ∙ sym (repeat-ended (readCell s k) go (complex p, place) z (rw u refl));

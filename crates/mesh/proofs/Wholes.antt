@@ -6,19 +6,21 @@ use mathlib.Core.List.{List, [], _∷_}
 use Prim.Native.Nat.{ℕ, zero, suc, _+_, _≤_}
 use native.Mathlib.Omega.{arith}
 use lib.IntN.{ℤ}
+use Rattle.maths.proofs.Cases.{bool-or}
 use Rattle.rules.specs.declared.answers.MeshRead.{MeshRead}
 use Rattle.rules.specs.declared.form.Fault.{Fault}
 use Rattle.rules.specs.declared.form.Field.{Field}
-use Rattle.rules.specs.Refusals.{accepted, wrongLength}
+use Rattle.rules.specs.Refusals.{accepted, wrongLength, noPlace}
 use Rattle.rules.specs.Complex.{Pattern, pattern, Complex, complex, countsOf, empty, stored}
-use Rattle.rules.specs.Form.{faultNumber, byteAt}
+use Rattle.rules.specs.Form.{isFault, byteAt}
 use Rattle.rules.specs.Mesh.{Reading, faulty, refused, taken, Place, corners, readSection, readMesh, afterReading}
 use Rattle.rules.specs.Calls.{lent, sized, noMesh, readCall}
 use Rattle.rules.proofs.bytes.Fields.{byte-says}
 use Rattle.rules.proofs.branches.Numbers.{fault-numbered}
-use Rattle.rules.proofs.texts.ReadGood.{corners-good}
+use Rattle.rules.proofs.texts.ReadGood.{corners-good, mesh-each}
 use Rattle.rules.proofs.storage.Stored.{complex-stored, stored-complex, stored-held}
-use Rattle.mesh.specs.Reading.{Zeros, zeros, refusalOf, PartRead, from, ReadUpTo, NextSection}
+use Rattle.mesh.specs.declared.part.Part.{Part}
+use Rattle.mesh.specs.Reading.{Zeros, zeros, faultyPart, refusalOf, PartRead, from, ReadUpTo, NextSection}
 
 module _ (s : List ℕ) where
   -- the corner count
@@ -27,7 +29,7 @@ module _ (s : List ℕ) where
   begins e = rw e
 
   pub corners-read : {n : ℕ} → byteAt s 0 0 96 ≡ Field.Got n
-      → ReadUpTo s 1 (record { counts = record { n = n ∷ 0 ∷ 0 ∷ 0 ∷ [] }; used = 1; refusal = accepted }) (zeros (record { n = n ∷ 0 ∷ 0 ∷ 0 ∷ [] }))
+      → ReadUpTo s 1 (record { counts = record { n = n ∷ 0 ∷ 0 ∷ 0 ∷ [] }; next = 1; refusal = accepted; place = noPlace }) (zeros (record { n = n ∷ 0 ∷ 0 ∷ 0 ∷ [] }))
   corners-read {n} e =
       let G = corners-good n (byte-says s 0 0 96 n e .most) in
       record {
@@ -40,11 +42,11 @@ module _ (s : List ℕ) where
   unfolding readMesh
   corners-faulty e = rw e
 
-  pub corners-refused : {f : Fault} {r : MeshRead} {number : ℕ} → byteAt s 0 0 96 ≡ Field.Bad f → number ≡ faultNumber f → r ≡ noMesh number → ReadUpTo s 1 r (zeros (r .counts))
-  corners-refused {f} e q a = rw a (record {
+  pub corners-refused : {f : Fault} {r : Part} → byteAt s 0 0 96 ≡ Field.Bad f → r ≡ faultyPart (countsOf empty) f → ReadUpTo s 1 r (zeros (r .counts))
+  corners-refused {f} e a = rw a (record {
     held = stored-held (corners-good 0 (omega arith));
-    goes = λ z. absurd (fault-numbered f (sym q ∙ z));
-    ends = λ _. ap refusalOf (corners-faulty e) ∙ sym q;
+    goes = λ z. absurd (fault-numbered f z);
+    ends = λ _. ap refusalOf (corners-faulty e);
   })
 
   -- the next section, and what is left after it
@@ -56,14 +58,14 @@ module _ (s : List ℕ) where
   from-next (suc (suc (suc zero))) x l h = refl
   from-next (suc (suc (suc (suc k)))) x l h = absurd (omega arith)
 
-  module _ {k : ℕ} {r : MeshRead} {p : Pattern} (N : NextSection s k r p) where
-    pub next-read : {r' : MeshRead} {q : Pattern} → r .refusal ≡ accepted → PartRead (readSection s k (complex p, r .used)) r' q → ReadUpTo s (k + 1) r' q
+  module _ {k : ℕ} {r : Part} {p : Pattern} (N : NextSection s k r p) where
+    pub next-read : {r' : Part} {q : Pattern} → r .refusal ≡ accepted → PartRead (readSection s k (complex p, r .next)) r' q → ReadUpTo s (k + 1) r' q
     next-read a W =
-        let so = N .sofar .goes a ∙ from-next k (complex p, r .used) (N .least) (N .most) in
+        let so = N .sofar .goes a ∙ from-next k (complex p, r .next) (N .least) (N .most) in
         record {
           held = W .held;
           goes = λ e. so ∙ W .goes e (from s (k + 1));
-          ends = λ n. let E = W .ends n in ap refusalOf (so ∙ E .is (from s (k + 1))) ∙ E .number;
+          ends = λ n. let E = W .ends n in ap refusalOf (so ∙ E .is (from s (k + 1))) ∙ E .refusal;
         }
 
     pub next-refused : r .refusal ≢ accepted → ReadUpTo s (k + 1) r p
@@ -71,25 +73,38 @@ module _ (s : List ℕ) where
 
 -- what the call answers
 module _ (s : List ℕ) (p : Pattern) where
-  pub wrong-length : {r : MeshRead} → sized p ≡ false → r ≡ noMesh wrongLength → lent r p ≡ readCall s p
+  pub wrong-length : {r : MeshRead} → sized p ≡ false → r ≡ noMesh wrongLength noPlace → lent r p ≡ readCall s p
   unfolding readCall
   wrong-length e a = rw (a, e)
 
   module _ (long : sized p ≡ true) where
-    pub reading-taken : {r : MeshRead} {q : Pattern} → ReadUpTo s 4 r q → r .counts ≡ q .counts → r .refusal ≡ accepted → lent r q ≡ readCall s p
+    pub reading-taken : {r : Part} {q : Pattern} → ReadUpTo s 4 r q → r .counts ≡ q .counts → r .refusal ≡ accepted
+        → lent (record { counts = r .counts; used = r .next; refusal = accepted; place = noPlace }) q ≡ readCall s p
     unfolding readCall from
     reading-taken {r} {q} S c e =
-        let answer : Pattern → MeshRead = λ p. record { counts = p .counts; used = r .used; refusal = accepted } in
-        let is : r ≡ answer q = λ i. record { counts = c i; used = r .used; refusal = e i } in
-        rw (long, S .goes e) (ap (λ a. lent a q) is ∙ sym (ap (λ p. lent (answer p) p) (stored-complex q (S .held .sized))))
+        let answer : Pattern → MeshRead = λ p. record { counts = p .counts; used = r .next; refusal = accepted; place = noPlace } in
+        rw (long, S .goes e, c) (sym (ap (λ p. lent (answer p) p) (stored-complex q (S .held .sized))))
 
-    refused-as : {A : Type 0} (bad : ℕ → A) (go : Complex → ℕ → A) (x : Reading) {r : ℕ} → refusalOf x ≡ r → r ≢ accepted → bad r ≡ afterReading x bad go
-    refused-as bad go (faulty f) e n = rw e
-    refused-as bad go (refused r) e n = rw e
-    refused-as bad go (taken X used) e n = absurd (n (sym e))
+    refused-as : {A : Type 0} (bad : ℕ → ℕ → A) (go : Complex → ℕ → A) (x : Reading) {r at : ℕ} → refusalOf x ≡ (r, at) → r ≢ accepted → bad r at ≡ afterReading x bad go
+    refused-as bad go (faulty f) e n = sym (ap (λ (y : ℕ × ℕ). bad (y .0) (y .1)) e)
+    refused-as bad go (refused r) e n = sym (ap (λ (y : ℕ × ℕ). bad (y .0) (y .1)) e)
+    refused-as bad go (taken X used) e n = absurd (n (sym (ap (λ (y : ℕ × ℕ). y .0) e)))
 
-    pub reading-refused : {r r' : MeshRead} {q : Pattern} {m1 m2 m3 : List ℤ} → ReadUpTo s 4 r q → r .refusal ≢ accepted → Zeros m1 m2 m3 → r' ≡ noMesh (r .refusal)
-        → lent r' (pattern (countsOf empty) m1 m2 m3) ≡ readCall s p
+    pub reading-refused : {r : Part} {r' : MeshRead} {q : Pattern} {m1 m2 m3 : List ℤ} → ReadUpTo s 4 r q → r .refusal ≢ accepted → Zeros m1 m2 m3
+        → r' ≡ noMesh (r .refusal) (r .place) → lent r' (pattern (countsOf empty) m1 m2 m3) ≡ readCall s p
     unfolding readCall
     reading-refused {r} S n Z a =
-        rw (a, Z .zero1, Z .zero2, Z .zero3, long) (refused-as (λ r. lent (noMesh r) (stored empty)) _ (readMesh s) (S .ends n) n)
+        rw (a, Z .zero1, Z .zero2, Z .zero3, long) (refused-as (λ r at. lent (noMesh r at) (stored empty)) _ (readMesh s) (S .ends n) n)
+
+-- a place has 32 bits
+abbrev Small : ℕ × ℕ → Type 0
+Small y = y .1 ≤ noPlace
+
+places-small : (s : List ℕ) → Small (refusalOf (readMesh s))
+places-small s =
+    mesh-each (λ (y : ℕ × ℕ) (x : Unit {0}). Small y) {bad' = λ r at. tt} {go' = λ X used. tt} s
+    (λ r at n L. bool-or (isFault r) (λ e. omega (arith, L .near e)) (λ e. omega (arith, L .located .nowhere e)))
+    (λ X used e. omega arith)
+
+pub place-small : (s : List ℕ) {k : ℕ} {r : Part} {q : Pattern} → ReadUpTo s k r q → r .refusal ≢ accepted → r .place ≤ noPlace
+place-small s S n = rw (S .ends n) at (places-small s)

@@ -4,18 +4,19 @@ ghost use Rattle.rules.specs.Complex.{complex};
 ghost use Rattle.rules.specs.Mesh.{readCell, readSection};
 ghost use Rattle.rules.specs.Lending.{asLent, atEntry, atExit};
 ghost use Rattle.mesh.specs.Reading.{Readable, PartRead};
+use crate::part::Part;
+use crate::part::faulty;
 use form::fields::byte_form;
-use form::fields::refusal_of;
 use form::operators::make_form;
 use maths::SIDE;
 use operators::make::make;
-use rules::answers::MeshRead;
 use rules::counts::Counts;
 use rules::form::Field;
 use rules::form::OperatorForm;
 use rules::refusals::ACCEPTED;
+use rules::refusals::NO_PLACE;
 
-// The cell of dimension k at `at`; `used` is the place after it.
+// The cell of dimension k at `at`; `next` is the place after it.
 fn read_cell(
     c: Counts,
     k: u8,
@@ -24,23 +25,20 @@ fn read_cell(
     m1: &mut [i8],
     m2: &mut [i8],
     m3: &mut [i8],
-) -> MeshRead
+) -> Part
     requires { ⌜ Readable k (asLent c m1 m2 m3) ⌝ }
     ensures { λ r. ⌜ PartRead (readCell (now (s .entry)) k (complex (atEntry c m1 m2 m3), at)) r (atExit (r .counts) m1 m2 m3) ⌝ }
 {
     match make_form(s, k, at) {
-        OperatorForm::Bad(f) => MeshRead {
-            counts: c,
-            used: at,
-            refusal: refusal_of(f),
-        },
+        OperatorForm::Bad(f) => faulty(c, f),
         OperatorForm::Decoded(_, next) => {
             let made = make(c, k, s, at, m1, m2, m3);
             let counts = made.counts;
-            MeshRead {
+            Part {
                 counts,
-                used: next,
+                next,
                 refusal: made.refusal,
+                place: NO_PLACE as usize,
             }
         }
     }
@@ -56,7 +54,7 @@ fn read_cells(
     m1: &mut [i8],
     m2: &mut [i8],
     m3: &mut [i8],
-) -> MeshRead
+) -> Part
     requires { ⌜ Readable k (asLent c m1 m2 m3) ⌝ }
     ensures { λ r. ⌜ PartRead (λ go. repeat (readCell (now (s .entry)) k) go n (complex (atEntry c m1 m2 m3), at)) r (atExit (r .counts) m1 m2 m3) ⌝ }
 {
@@ -70,13 +68,14 @@ fn read_cells(
         }
         let next = cell.counts;
         counts = next;
-        place = cell.used;
+        place = cell.next;
         left -= 1;
     }
-    MeshRead {
+    Part {
         counts,
-        used: place,
+        next: place,
         refusal: ACCEPTED,
+        place: NO_PLACE as usize,
     }
 }
 
@@ -89,16 +88,12 @@ pub(crate) fn read_section(
     m1: &mut [i8],
     m2: &mut [i8],
     m3: &mut [i8],
-) -> MeshRead
+) -> Part
     requires { ⌜ Readable k (asLent c m1 m2 m3) ⌝ }
     ensures { λ r. ⌜ PartRead (readSection (now (s .entry)) k (complex (atEntry c m1 m2 m3), at)) r (atExit (r .counts) m1 m2 m3) ⌝ }
 {
     match byte_form(s, at, 0, SIDE) {
-        Field::Bad(f) => MeshRead {
-            counts: c,
-            used: at,
-            refusal: refusal_of(f),
-        },
+        Field::Bad(f) => faulty(c, f),
         Field::Got(n) => read_cells(c, k, n, s, at + 1, m1, m2, m3),
     }
 }

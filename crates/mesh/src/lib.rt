@@ -1,4 +1,5 @@
 // Reading and writing a mesh.
 mod cells;
+pub mod part;
 pub mod reader;
 pub mod writer;

@@ -11,7 +11,7 @@ use Rattle.maths.proofs.Sums.{join-zero}
 use Rattle.rules.specs.Refusals.{accepted}
 use Rattle.rules.specs.Complex.{Complex, pattern, complex, stored, euler}
 use Rattle.rules.specs.Good.{Good}
-use Rattle.rules.specs.Script.{Ended, ended}
+use Rattle.rules.specs.Script.{Ended, endedAt}
 use Rattle.rules.specs.Calls.{Lent, lent}
 use Rattle.rules.specs.Printed.{cellLines, printedMesh, printedRun, printed}
 use Rattle.rules.proofs.storage.Stored.{complex-stored}
@@ -27,15 +27,15 @@ abbrev pieces : Lent InputRun → List ℕ
 pieces l = headText (l .answer) (l .m1) ++ (panelText (l .answer) (l .m2) ++ blockText (l .answer) (l .m3))
 
 -- a refused mesh has one line
-refused-pieces : (r : ℕ) → r ≢ accepted → pieces (noRun r) ≡ printedMesh r
+refused-pieces : (r at : ℕ) → r ≢ accepted → pieces (noRun r at) ≡ printedMesh r at
 unfolding headText columnLines
-refused-pieces r n = rw (ne-eqb r accepted n) (simp (join-zero, append-nil))
+refused-pieces r at n = rw (ne-eqb r accepted n) (simp (join-zero, append-nil))
 
 -- the lines of the columns of the stored matrices are those of the pattern's cells
 run-pieces : (e : Ended) → Good (e .now) → pieces (ranTo e) ≡ printedRun e
 unfolding headText runText columnLines cellLines euler
 run-pieces e G =
-    let run : Complex → Ended = λ X. ended X (e .ran) (e .refusal) in
+    let run : Complex → Ended = λ X. endedAt X (e .ran) (e .refusal) (e .place) in
     let read-back = complex (stored (e .now)) in
     let same : pieces (ranTo e) ≡ printedRun (run read-back) = rw (printed-run (run read-back), printed-listing read-back) (simp append-assoc) in
     same ∙ ap (λ (X : Complex). printedRun (run X)) (complex-stored G)
@@ -44,7 +44,7 @@ pieces-printed : (input : List ℕ) → pieces (runInput (take 65536 input)) ≡
 unfolding runInput printed endOf
 pieces-printed input =
     let s = take 65536 input in
-    mesh-each (λ l t. pieces l ≡ t) s refused-pieces
+    mesh-each (λ l t. pieces l ≡ t) s (λ r at n L. refused-pieces r at n)
     (λ X used e. run-pieces (endOf (drop used s) X) (end-good (read-good s X used e) (drop used s)))
 
 -- `print` runs an input of at most 65,536 bytes (`pattern` reads the first 65,536); three times it puts a piece at the front of its buffer and lends that

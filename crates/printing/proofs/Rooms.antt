@@ -8,13 +8,18 @@ use lib.Seq.{length-take-le}
 use Rattle.maths.specs.Buffers.{Put}
 use Rattle.rules.specs.Counts.{countOf}
 use Rattle.rules.specs.Calls.{Lent}
-use Rattle.listing.specs.Pieces.{LinesRoom, RunRoom}
+use Rattle.listing.specs.Pieces.{LinesRoom}
 use Rattle.printing.specs.declared.run.InputRun.{InputRun}
+use Rattle.printing.specs.Input.{HeadRoom}
 use Rattle.printing.proofs.Sizes.{Printable}
 
 module _ {l : Lent InputRun} (p : Printable l) (out : List ℕ) (long : 38400 ≤ length out) where
-  pub head-room : RunRoom (l .answer .ran) (l .answer .counts) (l .answer .euler) (l .m1) out
-  head-room = record { ran-small = omega arith; euler-small = omega arith; seams = record { columns = record { size = p .sized .size1; few = p .seams }; room = omega arith } }
+  pub head-room : HeadRoom (l .answer) (l .m1) out
+  head-room = record {
+    run = record { ran-small = omega arith; euler-small = omega arith; seams = record { columns = record { size = p .sized .size1; few = p .seams }; room = omega arith } };
+    mesh-place = p .mesh-place;
+    script-place = p .script-place;
+  }
 
   pub panel-room : LinesRoom 400 (l .m2) (countOf (l .answer .counts) 2) out 0
   panel-room = record { columns = record { size = p .sized .size2; few = p .panels }; room = omega arith }

@@ -36,12 +36,12 @@ scriptHeld l = pattern (l .answer .counts) (l .m1) (l .m2) (l .m3)
 abbrev notRun : Lent MeshRead → Lent InputRun
 notRun l =
     let r = l .answer in
-    lent (record { mesh = r .refusal; ran = 0; refusal = 0; counts = r .counts; euler = pos 0 }) (meshHeld l)
+    lent (record { mesh = r .refusal; ran = 0; refusal = 0; place = r .place; counts = r .counts; euler = pos 0 }) (meshHeld l)
 
 abbrev hasRun : Lent ScriptRun → EulerNumber → Lent InputRun
 hasRun l z =
     let r = l .answer in
-    lent (record { mesh = accepted; ran = r .ran; refusal = r .refusal; counts = r .counts; euler = z .number }) (scriptHeld l)
+    lent (record { mesh = accepted; ran = r .ran; refusal = r .refusal; place = r .place; counts = r .counts; euler = z .number }) (scriptHeld l)
 
 -- a mesh that was taken: a good pattern is stored, and what is answered is what the script after it leads to
 pub record MeshTaken (s : List ℕ) (l : Lent MeshRead) (m : Lent InputRun) : Type 0 where
@@ -57,14 +57,14 @@ module _ (s : List ℕ) (p : Pattern) (long : sized p ≡ true) {l : Lent MeshRe
   mesh-refused =
       rw (read, long)
       (mesh-each (λ (l : Lent MeshRead) (m : Lent InputRun). l .answer .refusal ≢ accepted → notRun l ≡ m) s
-      (λ r n k. refl) (λ X used e k. absurd (k refl)))
+      (λ r at n L k. refl) (λ X used e k. absurd (k refl)))
 
   pub mesh-taken : l .answer .refusal ≡ accepted → MeshTaken s l (runInput s)
   unfolding readCall runInput
   mesh-taken =
       rw (read, long)
       (mesh-each (λ (l : Lent MeshRead) (m : Lent InputRun). l .answer .refusal ≡ accepted → MeshTaken s l m) s
-      (λ r n k. absurd (n k))
+      (λ r at n L k. absurd (n k))
       (λ X used e k. record { read = X; good = read-good s X used e; inside = written-read s e .0; held = refl; then = refl }))
 
 module _ {X : Complex} (G : Good X) (script : List ℕ) where

@@ -1,8 +1,8 @@
 // The pieces of the printed result, each put at the front of a buffer. The answer is how long the piece is.
 ghost use Rattle.maths.specs.Buffers.{Put};
 ghost use Rattle.rules.specs.Counts.{countOf};
-ghost use Rattle.listing.specs.Pieces.{LinesRoom, RunRoom};
-ghost use Rattle.printing.specs.Input.{headText, panelText, blockText};
+ghost use Rattle.listing.specs.Pieces.{LinesRoom};
+ghost use Rattle.printing.specs.Input.{headText, panelText, blockText, HeadRoom};
 use crate::run::InputRun;
 use listing::lines::line_mesh;
 use listing::pieces::put_cells;
@@ -11,14 +11,14 @@ use rules::refusals::ACCEPTED;
 
 // The refusal of a mesh, or else all that comes before the panels.
 pub(crate) fn put_head(out: &mut [u8], run: InputRun, m1: &[i8]) -> usize
-    requires { ⌜ RunRoom (run .ran) (run .counts) (run .euler) (now m1) (now out) ⌝ }
+    requires { ⌜ HeadRoom run (now m1) (now out) ⌝ }
     ensures { λ n. ⌜ Put (now (out .entry)) 0 (headText run (now (m1 .entry))) n (now (out .exit)) ⌝ }
 {
     if run.mesh != ACCEPTED {
-        return line_mesh(out, 0, run.mesh);
+        return line_mesh(out, 0, run.mesh, run.place);
     }
     let c = run.counts;
-    put_run(out, run.ran, run.refusal, c, run.euler, m1)
+    put_run(out, run.ran, run.refusal, run.place, c, run.euler, m1)
 }
 
 // The panels.

@@ -9,11 +9,12 @@ use engine::run_script;
 use rules::counts::Counts;
 use rules::refusals::ACCEPTED;
 
-// The refusal of the mesh; then how its script ended, the counts and the Euler number.
+// The refusal of the mesh; then how its script ended, the place of a fault in either, the counts and the Euler number.
 pub struct InputRun {
     pub mesh: u8,
     pub ran: u16,
     pub refusal: u8,
+    pub place: u32,
     pub counts: Counts,
     pub euler: i16,
 }
@@ -30,6 +31,7 @@ pub(crate) fn run_input(s: &[u8], m1: &mut [i8], m2: &mut [i8], m3: &mut [i8]) -
             mesh: read.refusal,
             ran: 0,
             refusal: ACCEPTED,
+            place: read.place,
             counts: c,
             euler: 0,
         };
@@ -42,6 +44,7 @@ pub(crate) fn run_input(s: &[u8], m1: &mut [i8], m2: &mut [i8], m3: &mut [i8]) -
         mesh: ACCEPTED,
         ran: done.ran,
         refusal: done.refusal,
+        place: done.place,
         counts,
         euler: number.number,
     }

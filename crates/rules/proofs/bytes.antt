@@ -1,4 +1,5 @@
 pub mod Fields
+pub mod Faults
 pub mod Listed
 pub mod Faces
 pub mod Decoded

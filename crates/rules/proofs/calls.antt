@@ -1,6 +1,7 @@
 pub mod Limits
 pub mod ChainCalls
 pub mod Refused
+pub mod Places
 pub mod Left
 pub mod RoundTrips
 pub mod ChainMap

@@ -1,5 +1,5 @@
 -- "The two files": the form of operators and scripts. The first fault in byte order wins, since each field is read only where those before it were in form.
-use mathlib.Core.Bool.{Bool, true, false, cond, _&&_}
+use mathlib.Core.Bool.{Bool, true, false, cond, _&&_, _||_}
 use mathlib.Core.List.{List}
 use Prim.Native.Nat.{ℕ, zero, suc, _+_, _-_, _*_}
 use lib.Dec.{eqb, ltb, leb}
@@ -25,6 +25,10 @@ abbrev pub faultPlace : Fault → ℕ
 faultPlace (Fault.Ends at) = at
 faultPlace (Fault.Wrong at) = at
 faultPlace (Fault.Left at) = at
+
+-- whether r is the number of a fault
+abbrev pub isFault : ℕ → Bool
+isFault r = eqb r bytesEnd || eqb r wrongForm || eqb r bytesLeft
 
 -- x is from low to high
 abbrev pub within : ℕ → ℕ → ℕ → Bool

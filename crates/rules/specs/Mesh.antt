@@ -8,9 +8,10 @@ use Rattle.maths.specs.Tests.{eqZ, isZero, count, last}
 use Rattle.maths.specs.Sums.{join}
 use Rattle.maths.specs.Repeat.{repeat}
 use Rattle.rules.specs.declared.form.Fault.{Fault}
+use Rattle.rules.specs.Refusals.{noPlace}
 use Rattle.rules.specs.Complex.{Complex, Chain, bare}
 use Rattle.rules.specs.Operators.{step, afterStep}
-use Rattle.rules.specs.Form.{byteAt, after, makeAt, afterOperator, facesOf, faultNumber}
+use Rattle.rules.specs.Form.{byteAt, after, makeAt, afterOperator, facesOf, faultNumber, faultPlace}
 
 -- What reading finds: a fault of the form, a refusal by meaning, or a pattern and how many bytes it took.
 pub data Reading : Type 0 where
@@ -45,10 +46,10 @@ readMesh s =
     readSection s 2 x λ y.
     readSection s 3 y λ z. taken (z .0) (z .1)
 
--- what follows reading: `bad` of the refusal's number, or `go` of the pattern and of the bytes used
-abbrev pub afterReading : {A : Type 0} → Reading → (ℕ → A) → (Complex → ℕ → A) → A
-afterReading (faulty f) bad go = bad (faultNumber f)
-afterReading (refused r) bad go = bad r
+-- what follows reading: `bad` of the refusal's number and place, or `go` of the pattern and of the bytes used
+abbrev pub afterReading : {A : Type 0} → Reading → (ℕ → ℕ → A) → (Complex → ℕ → A) → A
+afterReading (faulty f) bad go = bad (faultNumber f) (faultPlace f)
+afterReading (refused r) bad go = bad r noPlace
 afterReading (taken X used) bad go = go X used
 
 -- the number of the face with the value z

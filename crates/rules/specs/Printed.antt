@@ -9,6 +9,7 @@ use lib.IntN.{ℤ, pos, negsuc}
 use lib.ListN.{take, drop}
 use Rattle.maths.specs.Sums.{join}
 use Rattle.rules.specs.Complex.{Complex, Chain, euler}
+use Rattle.rules.specs.Form.{isFault}
 use Rattle.rules.specs.Mesh.{tailOf, headOf, eachFace, readMesh, afterReading}
 use Rattle.rules.specs.Script.{Ended, ended, runScript}
 use Rattle.rules.specs.Calls.{onGood, sizedScript}
@@ -21,13 +22,13 @@ text (letter c rest) = code c ∷ text rest
 abbrev pub line : List ℕ
 line = text "\n"
 
--- a number below 10,000 in decimal; `most` is how many digits may follow the last
+-- a number below 100,000 in decimal; `most` is how many digits may follow the last
 abbrev pub digits : ℕ → ℕ → List ℕ
 digits zero n = (48 + n % 10) ∷ []
 digits (suc most) n = cond (ltb n 10) ((48 + n) ∷ []) (digits most (n / 10) ++ ((48 + n % 10) ∷ []))
 
 unfoldable pub decimal : ℕ → List ℕ
-decimal n = digits 3 n
+decimal n = digits 4 n
 
 unfoldable pub whole : ℤ → List ℕ
 whole (pos n) = decimal n
@@ -55,12 +56,17 @@ listing X =
     ++ (text "euler " ++ (whole (euler X) ++ (line
     ++ (cellLines seamLine 1 X ++ (cellLines (cellLine (text "f")) 2 X ++ cellLines (cellLine (text "s")) 3 X)))))))))))))
 
+-- "A printed 3, 4 or 14 gains ` at P`."
+unfoldable pub placeText : ℕ → ℕ → List ℕ
+placeText r at = cond (isFault r) (text " at " ++ decimal at) []
+
 unfoldable pub printedRun : Ended → List ℕ
-printedRun e = text "ran " ++ (decimal (e .ran) ++ (text " refusal " ++ (decimal (e .refusal) ++ (line ++ listing (e .now)))))
+printedRun e =
+    text "ran " ++ (decimal (e .ran) ++ (text " refusal " ++ (decimal (e .refusal) ++ (placeText (e .refusal) (e .place) ++ (line ++ listing (e .now))))))
 
 -- "A refused mesh prints one line, `mesh refusal R`."
-unfoldable pub printedMesh : ℕ → List ℕ
-printedMesh r = text "mesh refusal " ++ (decimal r ++ line)
+unfoldable pub printedMesh : ℕ → ℕ → List ℕ
+printedMesh r at = text "mesh refusal " ++ (decimal r ++ (placeText r at ++ line))
 
 -- "reads a mesh followed directly by a script from standard input. It takes the first 65,536 bytes and no more"
 unfoldable pub printed : List ℕ → List ℕ

@@ -54,3 +54,7 @@ wrongChain = 16  -- a coefficient is out of limits, or not 0 at or past the coun
 
 abbrev pub notCarried : ℕ
 notCarried = 17  -- kill or merge given to carrying
+
+-- The place of an answer that is no fault of the form: "the largest unsigned 32-bit number".
+abbrev pub noPlace : ℕ
+noPlace = 4_294_967_295

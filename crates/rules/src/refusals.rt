@@ -34,3 +34,6 @@ pub const SHORT_OUTPUT: u8 = 15;
 pub const WRONG_CHAIN: u8 = 16;
 
 pub const NOT_CARRIED: u8 = 17;
+
+// The place of an answer that is no fault of the form.
+pub const NO_PLACE: u32 = 4_294_967_295;

@@ -1,6 +1,8 @@
 //! A lent pattern with the calls on it, for the tests.
 #![allow(dead_code)]
 
+use second::NO_PLACE;
+
 /// T of the document: three corners, three seams, one panel.
 pub const T: [u8; 17] = [3, 3, 0, 2, 0, 1, 1, 2, 1, 3, 0, 2, 1, 1, 2, 1, 0];
 
@@ -37,23 +39,41 @@ impl Lent {
     }
 
     pub fn read_mesh(&mut self, bytes: &[u8]) -> (u8, usize) {
-        let (refusal, counts, used) = second::read_mesh(bytes, &mut self.m1, &mut self.m2, &mut self.m3);
-        self.counts = counts;
+        let (refusal, used, place) = self.read_mesh_at(bytes);
+        assert_placed(refusal, place);
         (refusal, used)
     }
 
+    pub fn read_mesh_at(&mut self, bytes: &[u8]) -> (u8, usize, u32) {
+        let (refusal, counts, used, place) = second::read_mesh(bytes, &mut self.m1, &mut self.m2, &mut self.m3);
+        self.counts = counts;
+        (refusal, used, place)
+    }
+
     pub fn apply(&mut self, bytes: &[u8]) -> u8 {
-        let Lent { counts, m1, m2, m3 } = self;
-        let (refusal, after) = second::apply_operator(*counts, m1, m2, m3, bytes);
-        *counts = after;
+        let (refusal, place) = self.apply_at(bytes);
+        assert_placed(refusal, place);
         refusal
     }
 
-    pub fn run(&mut self, bytes: &[u8]) -> (u8, u16) {
+    pub fn apply_at(&mut self, bytes: &[u8]) -> (u8, u32) {
         let Lent { counts, m1, m2, m3 } = self;
-        let (refusal, after, ran) = second::run_script(*counts, m1, m2, m3, bytes);
+        let (refusal, after, place) = second::apply_operator(*counts, m1, m2, m3, bytes);
         *counts = after;
+        (refusal, place)
+    }
+
+    pub fn run(&mut self, bytes: &[u8]) -> (u8, u16) {
+        let (refusal, ran, place) = self.run_at(bytes);
+        assert_placed(refusal, place);
         (refusal, ran)
+    }
+
+    pub fn run_at(&mut self, bytes: &[u8]) -> (u8, u16, u32) {
+        let Lent { counts, m1, m2, m3 } = self;
+        let (refusal, after, ran, place) = second::run_script(*counts, m1, m2, m3, bytes);
+        *counts = after;
+        (refusal, ran, place)
     }
 
     pub fn check(&self) -> u8 {
@@ -82,8 +102,23 @@ impl Lent {
     }
 
     pub fn carry(&self, bytes: &[u8], d: u8, chain: &[i32], out: &mut [i32]) -> u8 {
+        let (refusal, place) = self.carry_at(bytes, d, chain, out);
+        if d <= 3 {
+            assert_placed(refusal, place);
+        } else {
+            assert_eq!(place, NO_PLACE, "a fault of the dimension is none of the form");
+        }
+        refusal
+    }
+
+    pub fn carry_at(&self, bytes: &[u8], d: u8, chain: &[i32], out: &mut [i32]) -> (u8, u32) {
         second::carry(self.counts, &self.m1, &self.m2, &self.m3, bytes, d, chain, out)
     }
+}
+
+/// A fault of the form has a place, and nothing else has.
+fn assert_placed(refusal: u8, place: u32) {
+    assert_eq!(matches!(refusal, 3 | 4 | 14), place != NO_PLACE, "{refusal} at {place}");
 }
 
 /// A plain generator of numbers, so that every run is the same.

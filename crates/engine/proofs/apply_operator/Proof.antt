@@ -1,5 +1,6 @@
 -- `engine::apply_operator` meets its contract: each return is one of the answers of a call with one operator.
 use mathlib.Core.Path.{_≡_, sym, _∙_}
+use native.Mathlib.Omega.{arith}
 use borrow.Author.Needs.{needs}
 use lib.ListN.{length}
 use Rattle.rules.specs.Refusals.{accepted}
@@ -7,7 +8,7 @@ use Rattle.rules.specs.Complex.{Pattern}
 use Rattle.rules.specs.Lending.{asLent}
 use Rattle.good.specs.Tested.{tested}
 use Rattle.good.proofs.Passing.{held}
-use Rattle.engine.proofs.Answers.{lone-read, apply-not-good, apply-faulty, apply-done}
+use Rattle.engine.proofs.Answers.{lone-read, lone-place, apply-not-good, apply-faulty, apply-done}
 use Rattle.engine.proofs.apply_operator.Statement.{statement}
 use Rattle.engine.proofs.apply_operator.Tie as tie
 
@@ -33,15 +34,21 @@ apply-requires c κs =
     let four : length (s .args .c .n) ≡ 4 = search needs in
     (held (entry s) four (passed (call .before)), lone-read (sym (call .form-of-operator .ensures) ∙ arm .o .given .1))
 
+place-fits : tie.Need-cast-t22
+place-fits c =
+    let arm = c .before .before .before in
+    let call = arm .before .before in
+    omega (arith, c .place-of .ensures, lone-place (start (call .before) .args .s .now) (sym (call .form-of-operator .ensures) ∙ arm .f .given .1))
+
 not-in-form : tie.Need-returns-2
 not-in-form c =
-    let arm = c .before .before in
+    let arm = c .before .before .before in
     let call = arm .before .before in
-    apply-faulty _ _ (passed (call .before)) (sym (call .form-of-operator .ensures) ∙ arm .f .given .1) (c .refusal-of .ensures)
+    apply-faulty _ _ (passed (call .before)) (sym (call .form-of-operator .ensures) ∙ arm .f .given .1) (c .before .refusal-of .ensures) (c .place-of .ensures)
 
 done : tie.Need-returns-3
 done c =
-    let a = c .before .before .before in
+    let a = c .before .before .before .before in
     let arm = a .before .before .before .before .before in
     let call = arm .before .before in
     apply-done _ _ (passed (call .before)) (sym (call .form-of-operator .ensures) ∙ arm .o .given .1) (a .apply .ensures)
@@ -58,6 +65,8 @@ apply-operator-spec =
     (λ c κs. search needs)
     (λ c. search needs)
     (λ c κs. search needs)
+    (λ c κs. search needs)
+    place-fits
     (λ c. search needs)
     apply-requires
     (λ c. search needs)

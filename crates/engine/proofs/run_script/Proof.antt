@@ -1,6 +1,7 @@
 -- `engine::run_script` meets its contract: each return is one of the answers of a call with a script.
 use mathlib.Core.Path.{_≡_, sym, _∙_}
 use Prim.Native.Nat.{_≤_}
+use native.Mathlib.Omega.{arith}
 use borrow.Author.Needs.{needs}
 use borrow.Author.Tests.{not-true, not-false}
 use lib.ListN.{length}
@@ -9,7 +10,7 @@ use Rattle.rules.specs.Complex.{Pattern}
 use Rattle.rules.specs.Lending.{asLent}
 use Rattle.good.specs.Tested.{tested}
 use Rattle.good.proofs.Passing.{held}
-use Rattle.engine.proofs.ScriptAnswers.{script-says, too-long, run-not-good, run-faulty, run-stale, run-done}
+use Rattle.engine.proofs.ScriptAnswers.{script-says, too-long, run-not-good, script-place, run-faulty, run-stale, run-done}
 use Rattle.engine.proofs.run_script.Statement.{statement}
 use Rattle.engine.proofs.run_script.Tie as tie
 
@@ -62,16 +63,29 @@ run-operators-requires c κs =
     record {
       held = held (entry start) (four start) (passed (call .before));
       few = script-says (start .args .s .now) (sym (call .form-of-script .ensures) ∙ arm .n .given .1) .1;
+      short = short (call .before);
     }
+
+place-fits : tie.Need-cast-idle
+place-fits c =
+    let arm = c .before .before .before in
+    let call = arm .before .before in
+    let good = call .before in
+    omega (
+      arith,
+      c .place-of .ensures,
+      script-place (entry (first good)) (first good .args .s .now) (short good) (sym (call .form-of-script .ensures) ∙ arm .f .given .1),
+    )
 
 not-in-form : tie.Need-returns-4
 not-in-form c =
-    let arm = c .before .before .before in
+    let place = c .before in
+    let arm = place .before .before .before in
     let call = arm .before .before in
     let good = call .before in
     rw (c .idle3 .ensures)
     (run-faulty (entry (first good)) (first good .args .s .now) (short good) (four (first good)) (passed good)
-    (sym (call .form-of-script .ensures) ∙ arm .f .given .1) (c .before .refusal-of .ensures))
+    (sym (call .form-of-script .ensures) ∙ arm .f .given .1) (place .before .refusal-of .ensures) (place .place-of .ensures))
 
 ran : tie.Need-returns-5
 ran c =
@@ -99,6 +113,8 @@ run-script-spec =
     (λ c κs. search needs)
     (λ c. search needs)
     (λ c κs. search needs)
+    (λ c κs. search needs)
+    place-fits
     (λ c κs. search needs)
     (λ c. search needs)
     same-base-requires

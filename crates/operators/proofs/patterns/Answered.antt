@@ -11,7 +11,7 @@ use Rattle.rules.specs.Good.{Good, Held}
 use Rattle.rules.specs.Edits.{Step, layers}
 use Rattle.rules.specs.Operators.{Outcome, refused, edited, removed, step, afterStep}
 use Rattle.rules.specs.Form.{facesOf}
-use Rattle.rules.specs.Calls.{Lent, applied, operatorLeft}
+use Rattle.rules.specs.Calls.{Lent, applied, appliedLeft}
 use Rattle.rules.proofs.branches.Numbers.{Numbered, step-numbered}
 use Rattle.rules.proofs.bytes.Decoded.{Formed}
 use Rattle.rules.proofs.scripts.Steps.{edit-kept, removal-kept}
@@ -22,7 +22,7 @@ module _ (p : Pattern) {l : Lent Applied} where
   number-is q e = sym (ap (λ (l : Lent Applied). l .answer .refusal) e) ∙ q
 
   by-zero : (x : Outcome) → Numbered x → ((S : ℕ → Step) → x ≡ edited S → Good (layers S)) → ((Y : Complex) → x ≡ removed Y → Good Y)
-      → l ≡ applied p x → l .answer .refusal ≡ accepted → {A : Type 0} (bad : ℕ → A) (go : Complex → A) → afterStep x bad go ≡ go (complex (operatorLeft l))
+      → l ≡ applied p x → l .answer .refusal ≡ accepted → {A : Type 0} (bad : ℕ → A) (go : Complex → A) → afterStep x bad go ≡ go (complex (appliedLeft l))
   by-zero (refused r) n g h e q bad go = absurd (n r refl (number-is q e))
   by-zero (edited S) n g h e q bad go = rw (e, complex-stored (g S refl))
   by-zero (removed Y) n g h e q bad go = rw (e, complex-stored (h Y refl))
@@ -34,7 +34,7 @@ module _ (p : Pattern) {l : Lent Applied} where
   by-number (removed Y) e q bad go = absurd (q (ap (λ (l : Lent Applied). l .answer .refusal) e))
 
   module _ (s : List ℕ) (o : Operator) (e : l ≡ applied p (step o (facesOf s o) (complex p))) {A : Type 0} (bad : ℕ → A) (go : Complex → A) where
-    pub answer-accepted : Held p → Formed s o → l .answer .refusal ≡ accepted → afterStep (step o (facesOf s o) (complex p)) bad go ≡ go (complex (operatorLeft l))
+    pub answer-accepted : Held p → Formed s o → l .answer .refusal ≡ accepted → afterStep (step o (facesOf s o) (complex p)) bad go ≡ go (complex (appliedLeft l))
     answer-accepted H F q =
         by-zero (step o (facesOf s o) (complex p)) (step-numbered (facesOf s o) (complex p) o)
         (λ S r. edit-kept (H .good) s o F r .kept .good) (λ Y r. removal-kept (H .good) s o F r .good) e q bad go

@@ -8,11 +8,11 @@ use Rattle.rules.specs.declared.form.Fault.{Fault}
 use Rattle.rules.specs.declared.form.Field.{Field}
 use Rattle.rules.specs.declared.form.OperatorForm.{OperatorForm}
 use Rattle.rules.specs.declared.operator.Operator.{Operator}
-use Rattle.rules.specs.Refusals.{notCarried}
+use Rattle.rules.specs.Refusals.{notCarried, noPlace}
 use Rattle.rules.specs.Complex.{Complex}
 use Rattle.rules.specs.Edits.{Step, layers}
 use Rattle.rules.specs.Operators.{Outcome, refused, edited, removed, afterStep}
-use Rattle.rules.specs.Form.{faultNumber, after, afterOperator}
+use Rattle.rules.specs.Form.{faultNumber, faultPlace, after, afterOperator}
 use Rattle.rules.specs.Mesh as mesh
 use Rattle.rules.specs.Chains.{afterCarry}
 
@@ -42,10 +42,10 @@ module _ {A : Type 0} (P : A → Type 0) where
   carry-each (edited S) h n k = k S refl
   carry-each (removed Y) h n k = n
 
-  pub reading-each : {bad : ℕ → A} {go : Complex → ℕ → A} (x : mesh.Reading) → ((r : ℕ) → P (bad r)) →
+  pub reading-each : {bad : ℕ → ℕ → A} {go : Complex → ℕ → A} (x : mesh.Reading) → ((r at : ℕ) → P (bad r at)) →
       ((X : Complex) (used : ℕ) → x ≡ mesh.taken X used → P (go X used)) → P (mesh.afterReading x bad go)
-  reading-each (mesh.faulty f) h k = h (faultNumber f)
-  reading-each (mesh.refused r) h k = h r
+  reading-each (mesh.faulty f) h k = h (faultNumber f) (faultPlace f)
+  reading-each (mesh.refused r) h k = h r noPlace
   reading-each (mesh.taken X used) h k = k X used refl
 
   -- 1, then 2, then the rest: `onGood`

@@ -14,14 +14,14 @@ use Rattle.maths.proofs.Cases.{lt-or, and-right, and-both}
 use Rattle.maths.proofs.Tests.{zero-is, zero-true, all-at, all-of}
 use Rattle.maths.proofs.Dots.{dot-0-l}
 use Rattle.maths.proofs.Tables.{getD-table, length-table, is-table}
-use Rattle.rules.specs.Refusals.{accepted}
+use Rattle.rules.specs.Refusals.{accepted, noPlace}
 use Rattle.rules.specs.Complex.{Pattern, Complex, Chain, complex, stored}
 use Rattle.rules.specs.Good.{Good, Held}
 use Rattle.rules.specs.Edits.{Step, layers, boundary}
 use Rattle.rules.specs.Operators.{edited}
 use Rattle.rules.specs.Form.{within, facesOf}
 use Rattle.rules.specs.Chains.{isChain, boundaryLimit, carryLimit}
-use Rattle.rules.specs.Calls.{lent, operatorLeft, applyCall, Given, coefficients, boundaryCall, carryCall}
+use Rattle.rules.specs.Calls.{handedBack, operatorLeft, applyCall, Given, given, coefficients, boundaryCall, carryCall}
 use Rattle.rules.proofs.layers.Frame.{Within}
 use Rattle.rules.proofs.bytes.Decoded.{decoded}
 use Rattle.rules.proofs.storage.Stored.{sized-is, stored-held, complex-stored}
@@ -66,7 +66,7 @@ module _ {p : Pattern} (H : Held p) (s : List ℕ) {d : ℕ} {c out : List ℤ} 
   carried-edit = edit-kept (H .good) s (C .operator) (decoded s 0 (lone-at s (C .form)) .0) (carry-step (C .operator) (facesOf s (C .operator)) (complex p) (C .carried))
 
   -- and its call leaves what it makes of the layers
-  pub carried-call : applyCall p s ≡ lent (record { counts = stored (layers S) .counts; refusal = accepted }) (stored (layers S))
+  pub carried-call : applyCall p s ≡ handedBack (stored (layers S)) accepted noPlace
   unfolding applyCall
   carried-call = rw (sized-is (H .sized), good-is (H .good), C .form, carry-step (C .operator) (facesOf s (C .operator)) (complex p) (C .carried))
 
@@ -139,8 +139,8 @@ module _ {p : Pattern} (H : Held p) (s : List ℕ) {d : ℕ} {c out : List ℤ} 
   both-same =
       let b-read = read-table (boundary (complex p (suc d)) f) (λ i l. faces-within (H .good) d f i (omega (arith, H .good .few d))) in
       rw (carried-read H s C, b-read)
-      (ap (λ (Y : Complex). record { refusal = accepted; out = table 96 (boundary (Y (suc d)) (S (suc d) .carried f)) }) (complex-stored (E .kept .good))
-      ∙ ap (λ (h : Chain). record { refusal = accepted; out = table 96 h }) (fun-ext (E .carries .chain-map d f (chain-of H s C))))
+      (ap (λ (Y : Complex). given accepted (table 96 (boundary (Y (suc d)) (S (suc d) .carried f)))) (complex-stored (E .kept .good))
+      ∙ ap (λ (h : Chain). given accepted (table 96 h)) (fun-ext (E .carries .chain-map d f (chain-of H s C))))
 
   pub taken-commute : Commute (boundaryCall (stored (layers S)) (suc d) (table 96 (S (suc d) .carried f)) x) (carryCall p s d (table 96 (boundary (complex p (suc d)) f)) x)
   taken-commute = record {

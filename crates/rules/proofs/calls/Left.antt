@@ -17,13 +17,13 @@ use Rattle.rules.specs.declared.form.Fault.{Fault}
 use Rattle.rules.specs.declared.form.Field.{Field}
 use Rattle.rules.specs.declared.form.OperatorForm.{OperatorForm}
 use Rattle.rules.specs.declared.operator.Operator.{Operator}
-use Rattle.rules.specs.Refusals.{accepted, stale}
+use Rattle.rules.specs.Refusals.{accepted, stale, noPlace}
 use Rattle.rules.specs.Complex.{Pattern, Complex, complex, stored, euler}
 use Rattle.rules.specs.Good.{Held}
-use Rattle.rules.specs.Operators.{amountOf, step}
-use Rattle.rules.specs.Form.{operatorAt, loneOperator, facesOf, scriptForm, faultNumber}
+use Rattle.rules.specs.Operators.{amountOf, step, afterStep}
+use Rattle.rules.specs.Form.{operatorAt, loneOperator, facesOf, scriptForm, faultNumber, faultPlace}
 use Rattle.rules.specs.Script.{runScript, movedBy, sameBase}
-use Rattle.rules.specs.Calls.{Lent, lent, sized, sizedScript, applied, operatorLeft, scriptLeft, eulerCall, applyCall, runCall}
+use Rattle.rules.specs.Calls.{Lent, lent, sized, sizedScript, applied, appliedLeft, operatorLeft, scriptLeft, eulerCall, applyCall, runCall}
 use Rattle.rules.proofs.branches.Branches.{cond-each, operator-each, step-each}
 use Rattle.rules.proofs.branches.Numbers.{step-numbered}
 use Rattle.rules.proofs.bytes.Fields.{bad-operator, after-operator}
@@ -68,32 +68,31 @@ lone-at s {o} {next} e =
     (λ t. let q : OperatorForm.Decoded (a .0) (a .1) ≡ OperatorForm.Decoded o next = rw t at (a .3) in a .2 ∙ q)
 
 module _ {p : Pattern} (H : Held p) (s : List ℕ) where
-  -- an operator in form on a good pattern: what holds of a refusal, which leaves p, and of a good pattern whose Euler number has moved, holds of what it leaves
-  pub applied-each : (P : Lent Applied → Type 0) (o : Operator) → Formed s o →
-      ((r : ℕ) → r ≢ accepted → P (lent (record { counts = p .counts; refusal = r }) p)) →
-      ((Y : Complex) → Kept o (complex p) Y → P (lent (record { counts = stored Y .counts; refusal = accepted }) (stored Y))) →
-      P (applied p (step o (facesOf s o) (complex p)))
-  applied-each P o F stays goes =
+  -- an operator in form on a good pattern: what holds of a refusal and of a good pattern whose Euler number has moved, holds of what follows it
+  formed-each : {A : Type 0} (P : A → Type 0) {bad : ℕ → A} {go : Complex → A} (o : Operator) → Formed s o → ((r : ℕ) → r ≢ accepted → P (bad r)) →
+      ((Y : Complex) → Kept o (complex p) Y → P (go Y)) → P (afterStep (step o (facesOf s o) (complex p)) bad go)
+  formed-each P o F stays goes =
       step-each P (step o (facesOf s o) (complex p)) (λ r q. stays r (step-numbered (facesOf s o) (complex p) o r q))
       (λ S q. goes _ (edit-kept (H .good) s o F q .kept)) (λ Y q. goes Y (removal-kept (H .good) s o F q))
 
   -- what an operator leaves of a good pattern is good, accepted or refused
-  pub applied-held : {l : Lent Applied} (o : Operator) → Formed s o → l ≡ applied p (step o (facesOf s o) (complex p)) → Held (operatorLeft l)
-  applied-held o F e = rw e (applied-each (λ l. Held (operatorLeft l)) o F (λ r n. H) (λ Y K. stored-held (K .good)))
+  pub applied-held : {l : Lent Applied} (o : Operator) → Formed s o → l ≡ applied p (step o (facesOf s o) (complex p)) → Held (appliedLeft l)
+  applied-held o F e = rw e (formed-each (λ l. Held (appliedLeft l)) o F (λ r n. H) (λ Y K. stored-held (K .good)))
 
   -- the call of one operator
   pub apply-held : Held (operatorLeft (applyCall p s))
   unfolding applyCall
   apply-held =
       rw (sized-is (H .sized), good-is (H .good))
-      (operator-each (λ l. Held (operatorLeft l)) (loneOperator s) (λ f. H) (λ o next e. applied-held o (decoded s 0 (lone-at s e) .0) refl))
+      (operator-each (λ l. Held (operatorLeft l)) (loneOperator s) (λ f. H) (λ o next e.
+      formed-each (λ l. Held (operatorLeft l)) o (decoded s 0 (lone-at s e) .0) (λ r n. H) (λ Y K. stored-held (K .good))))
 
   pub apply-moves : {o : Operator} {next : ℕ} → loneOperator s ≡ OperatorForm.Decoded o next → applyCall p s .answer .refusal ≡ accepted →
       Moved p (operatorLeft (applyCall p s)) (amountOf o)
   unfolding applyCall
   apply-moves {o} e =
       rw (sized-is (H .sized), good-is (H .good), e)
-      (applied-each (λ l. l .answer .refusal ≡ accepted → Moved p (operatorLeft l) (amountOf o)) o (decoded s 0 (lone-at s e) .0)
+      (formed-each (λ l. l .answer .refusal ≡ accepted → Moved p (operatorLeft l) (amountOf o)) o (decoded s 0 (lone-at s e) .0)
       (λ r n a. absurd (n a))
       (λ Y K a. moved H (stored-held (K .good)) (ap euler (complex-stored (K .good)) ∙ K .moved)))
 
@@ -114,13 +113,16 @@ module _ {p : Pattern} (H : Held p) (s : List ℕ) where
 
   -- "A script whose form is faulty, or that is stale, runs nothing."
   module _ (short : sizedScript s ≡ true) where
-    nothing-runs : (r : ℕ) → lent {A = ScriptRun} (record { counts = stored (complex p) .counts; ran = 0; refusal = r }) (stored (complex p)) ≡ lent (record { counts = p .counts; ran = 0; refusal = r }) p
-    nothing-runs r = ap (λ (q : Pattern). lent (record { counts = q .counts; ran = 0; refusal = r }) q) (stored-complex p (H .sized))
+    abbrev idle : Pattern → ℕ → ℕ → Lent ScriptRun
+    idle q r at = lent (record { counts = q .counts; ran = 0; refusal = r; place = at }) q
 
-    pub faulty-runs-nothing : (f : Fault) → scriptForm s ≡ Field.Bad f → runCall p s ≡ lent (record { counts = p .counts; ran = 0; refusal = faultNumber f }) p
-    unfolding runCall runScript
-    faulty-runs-nothing f e = rw (sized-is (H .sized), short, good-is (H .good), e) (nothing-runs (faultNumber f))
+    nothing-runs : (r at : ℕ) → idle (stored (complex p)) r at ≡ idle p r at
+    nothing-runs r at = ap (λ (q : Pattern). idle q r at) (stored-complex p (H .sized))
 
-    pub stale-runs-nothing : (n : ℕ) → scriptForm s ≡ Field.Got n → sameBase s (complex p) ≡ false → runCall p s ≡ lent (record { counts = p .counts; ran = 0; refusal = stale }) p
+    pub faulty-runs-nothing : (f : Fault) → scriptForm s ≡ Field.Bad f → runCall p s ≡ idle p (faultNumber f) (faultPlace f)
     unfolding runCall runScript
-    stale-runs-nothing n e b = rw (sized-is (H .sized), short, good-is (H .good), e, b) (nothing-runs stale)
+    faulty-runs-nothing f e = rw (sized-is (H .sized), short, good-is (H .good), e) (nothing-runs (faultNumber f) (faultPlace f))
+
+    pub stale-runs-nothing : (n : ℕ) → scriptForm s ≡ Field.Got n → sameBase s (complex p) ≡ false → runCall p s ≡ idle p stale noPlace
+    unfolding runCall runScript
+    stale-runs-nothing n e b = rw (sized-is (H .sized), short, good-is (H .good), e, b) (nothing-runs stale noPlace)

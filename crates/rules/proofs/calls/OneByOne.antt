@@ -10,20 +10,20 @@ use native.Mathlib.Omega.{arith}
 use lib.Dec.{ltb}
 use lib.ListN.{length}
 use Rattle.maths.specs.Repeat.{repeat}
-use Rattle.rules.specs.declared.answers.Applied.{Applied}
+use Rattle.rules.specs.declared.answers.OperatorApplied.{OperatorApplied}
 use Rattle.rules.specs.declared.answers.ScriptRun.{ScriptRun}
 use Rattle.rules.specs.declared.form.Fault.{Fault}
 use Rattle.rules.specs.declared.form.Field.{Field}
 use Rattle.rules.specs.declared.form.OperatorForm.{OperatorForm}
 use Rattle.rules.specs.declared.operator.Operator.{Operator}
-use Rattle.rules.specs.Refusals.{accepted}
+use Rattle.rules.specs.Refusals.{accepted, noPlace}
 use Rattle.rules.specs.Complex.{Pattern, Complex, complex, stored}
 use Rattle.rules.specs.Good.{Good, Held}
 use Rattle.rules.specs.Edits.{layers}
 use Rattle.rules.specs.Operators.{step, afterStep}
 use Rattle.rules.specs.Form.{byteAt, wordAt, operatorAt, facesOf, countsAt, operatorsAt, scriptForm}
 use Rattle.rules.specs.Script.{Ended, ended, Here, runOne, runFrom, sameBase, runScript}
-use Rattle.rules.specs.Calls.{Lent, lent, sizedScript, applied, operatorLeft, scriptLeft, applyCall, runCall}
+use Rattle.rules.specs.Calls.{Lent, lent, sizedScript, handedBack, handedBackOf, operatorLeft, scriptLeft, applyCall, runCall}
 use Rattle.rules.proofs.branches.Branches.{cond-each, step-each}
 use Rattle.rules.proofs.bytes.Fields.{bad-field, after-got, after-operator}
 use Rattle.rules.proofs.bytes.Decoded.{decoded}
@@ -33,7 +33,7 @@ use Rattle.rules.proofs.storage.Tested.{good-is}
 use Rattle.rules.proofs.scripts.Steps.{edit-kept, removal-kept}
 
 -- the call of the operator that stands in the script from `at` up to `next`, with its own bytes
-abbrev pub callAt : List ℕ → ℕ → ℕ → Pattern → Lent Applied
+abbrev pub callAt : List ℕ → ℕ → ℕ → Pattern → Lent OperatorApplied
 callAt s at next p = applyCall p (bytesFrom s at next)
 
 -- n calls, all accepted: from the place `at` and the pattern p to the place `end` and the pattern q
@@ -47,7 +47,7 @@ pub record Stops (s : List ℕ) (at : ℕ) (p : Pattern) (r : ℕ) : Type 0 wher
   pub operator : Operator
   pub next : ℕ
   pub form : operatorAt s at ≡ OperatorForm.Decoded operator next
-  pub call : callAt s at next p ≡ lent (record { counts = p .counts; refusal = r }) p
+  pub call : callAt s at next p ≡ handedBack p r noPlace
 
 -- how a run from p, of which `ran` operators went before, ended: by that many calls, and with the call that was refused
 record Reached (s : List ℕ) (at ran : ℕ) (p : Pattern) (e : Ended) : Type 0 where
@@ -62,14 +62,14 @@ record Reached (s : List ℕ) (at ran : ℕ) (p : Pattern) (e : Ended) : Type 0 
 
 -- the call with an operator's own bytes does what the script does
 pub own-call : {p : Pattern} → Held p → (s : List ℕ) (at : ℕ) {o : Operator} {next : ℕ} → operatorAt s at ≡ OperatorForm.Decoded o next →
-    callAt s at next p ≡ applied p (step o (facesOf s o) (complex p))
+    callAt s at next p ≡ handedBackOf p (step o (facesOf s o) (complex p))
 unfolding applyCall
 own-call {p} H s at e = let A = alone s at e in rw (sized-is (H .sized), good-is (H .good), A .form, A .steps (complex p))
 
 module _ (s : List ℕ) where
   -- one call more
   one-more : {at next ran : ℕ} {p : Pattern} {o : Operator} {e : Ended} (Y : Complex) → operatorAt s at ≡ OperatorForm.Decoded o next →
-      callAt s at next p ≡ lent (record { counts = stored Y .counts; refusal = accepted }) (stored Y) → Reached s next (ran + 1) (stored Y) e → Reached s at ran p e
+      callAt s at next p ≡ handedBack (stored Y) accepted noPlace → Reached s next (ran + 1) (stored Y) e → Reached s at ran p e
   one-more {at} {next} {ran} {p} {o} Y d c R =
       let rest : Calls s (R .number) next (operatorLeft (callAt s at next p)) (R .place) (R .left) = rw c (R .calls) in
       record {
@@ -79,7 +79,7 @@ module _ (s : List ℕ) where
         left = R .left;
         held = R .held;
         now-is = R .now-is;
-        calls = more d (ap (λ (l : Lent Applied). l .answer .refusal) c) rest;
+        calls = more d (ap (λ (l : Lent OperatorApplied). l .answer .refusal) c) rest;
         last = R .last;
       }
 
@@ -106,7 +106,7 @@ module _ (s : List ℕ) where
   -- an operator in form, and n more after it, on whatever good pattern it leaves
   module _ (n at ran : ℕ) {p : Pattern} (H : Held p) (o : Operator) (next : ℕ) (d : operatorAt s at ≡ OperatorForm.Decoded o next)
       (rest : (q : Pattern) → Held q → Reached s next (ran + 1) q (runFrom s n (record { now = complex q; ran = ran + 1; at = next }))) where
-    call : callAt s at next p ≡ applied p (step o (facesOf s o) (complex p))
+    call : callAt s at next p ≡ handedBackOf p (step o (facesOf s o) (complex p))
     call = own-call H s at d
 
     on : (Y : Complex) → Good Y → Reached s next (ran + 1) (stored Y) (runFrom s n (record { now = Y; ran = ran + 1; at = next }))
@@ -118,9 +118,9 @@ module _ (s : List ℕ) where
         let F = decoded s at d .0 in
         rw (run-next n (record { now = complex p; ran = ran; at = at }) d)
         (step-each (Reached s at ran p) (step o (facesOf s o) (complex p))
-        (λ r q. stays r H (λ _. record { operator = o; next = next; form = d; call = call ∙ ap (applied p) q }))
-        (λ S q. one-more (layers S) d (call ∙ ap (applied p) q) (on (layers S) (edit-kept (H .good) s o F q .kept .good)))
-        (λ Y q. one-more Y d (call ∙ ap (applied p) q) (on Y (removal-kept (H .good) s o F q .good))))
+        (λ r q. stays r H (λ _. record { operator = o; next = next; form = d; call = call ∙ ap (handedBackOf p) q }))
+        (λ S q. one-more (layers S) d (call ∙ ap (handedBackOf p) q) (on (layers S) (edit-kept (H .good) s o F q .kept .good)))
+        (λ Y q. one-more Y d (call ∙ ap (handedBackOf p) q) (on Y (removal-kept (H .good) s o F q .good))))
 
   -- n operators in form
   runs : (count n m at ran : ℕ) (p : Pattern) → Held p → operatorsAt s count n at ≡ Field.Got m →
@@ -153,7 +153,7 @@ pub record OneByOne (s : List ℕ) (p : Pattern) (l : Lent ScriptRun) : Type 0 w
   pub last : l .answer .refusal ≢ accepted → Stops s place (scriptLeft l) (l .answer .refusal)
 
 module _ {p : Pattern} (H : Held p) (s : List ℕ) where
-  reached : {e : Ended} → Reached s 7 0 p e → OneByOne s p (lent (record { counts = stored (e .now) .counts; ran = e .ran; refusal = e .refusal }) (stored (e .now)))
+  reached : {e : Ended} → Reached s 7 0 p e → OneByOne s p (lent (record { counts = stored (e .now) .counts; ran = e .ran; refusal = e .refusal; place = e .place }) (stored (e .now)))
   reached {e} R =
       let same : stored (e .now) ≡ R .left = ap stored (R .now-is) ∙ stored-complex (R .left) (R .held .sized) in
       let ran : e .ran ≡ R .number = R .ran-is ∙ zero-add (R .number) in

@@ -9,7 +9,7 @@ use lib.Dec.{leb}
 use lib.ListN.{length, take, drop}
 use lib.Seq.{take-append-seam}
 use Rattle.rules.specs.declared.answers.MeshRead.{MeshRead}
-use Rattle.rules.specs.Refusals.{accepted}
+use Rattle.rules.specs.Refusals.{accepted, noPlace}
 use Rattle.rules.specs.Complex.{Pattern, Complex, complex, stored}
 use Rattle.rules.specs.Good.{Good, Held}
 use Rattle.rules.specs.Mesh.{readMesh, taken, writeMesh}
@@ -39,15 +39,15 @@ pub write-after-read : (s out : List ℕ) (p : Pattern) → Rewritten s out (rea
 unfolding readCall
 write-after-read s out p =
     cond-each (Rewritten s out) (sized p)
-    (λ t. mesh-each (λ (l : Lent MeshRead) (x : Unit {0}). Rewritten s out l) {bad' = λ r. tt} {go' = λ X used. tt} s
-    (λ r n e. absurd (n e)) (λ X used e a room. taken-rewritten s out X used e room))
+    (λ t. mesh-each (λ (l : Lent MeshRead) (x : Unit {0}). Rewritten s out l) {bad' = λ r at. tt} {go' = λ X used. tt} s
+    (λ r at n l e. absurd (n e)) (λ X used e a room. taken-rewritten s out X used e room))
     (λ t e. absurd (omega arith))
 
 -- "reading what was written the same pattern": an accepted write, whose bytes are read into any matrices, with any bytes after them
 abbrev Reread : Pattern → List ℕ → Pattern → Wrote → Type 0
 Reread p rest q w =
     w .answer .refusal ≡ accepted →
-    readCall (take (w .answer .written) (w .out) ++ rest) q ≡ lent (record { counts = p .counts; used = w .answer .written; refusal = accepted }) p
+    readCall (take (w .answer .written) (w .out) ++ rest) q ≡ lent (record { counts = p .counts; used = w .answer .written; refusal = accepted; place = noPlace }) p
 
 pub read-after-write : {p : Pattern} → Held p → (out rest : List ℕ) (q : Pattern) → sized q ≡ true → Reread p rest q (writeCall p out)
 unfolding writeCall readCall
@@ -56,5 +56,5 @@ read-after-write {p} H out rest q long =
     rw (sized-is (H .sized), good-is (H .good))
     (cond-each (Reread p rest q) (leb (length mesh) (length out))
     (λ t e. rw (take-append-seam mesh (drop (length mesh) out), long, read-written (H .good) rest)
-    (ap (λ (r : Pattern). lent (record { counts = r .counts; used = length mesh; refusal = accepted }) r) (stored-complex p (H .sized))))
+    (ap (λ (r : Pattern). lent (record { counts = r .counts; used = length mesh; refusal = accepted; place = noPlace }) r) (stored-complex p (H .sized))))
     (λ t e. absurd (omega arith)))

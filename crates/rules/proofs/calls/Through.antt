@@ -11,7 +11,7 @@ use Rattle.maths.specs.Tables.{table}
 use Rattle.maths.specs.Repeat.{repeat}
 use Rattle.maths.proofs.Cases.{and-both}
 use Rattle.maths.proofs.Tables.{length-table}
-use Rattle.rules.specs.declared.answers.Applied.{Applied}
+use Rattle.rules.specs.declared.answers.OperatorApplied.{OperatorApplied}
 use Rattle.rules.specs.declared.form.OperatorForm.{OperatorForm}
 use Rattle.rules.specs.declared.operator.Operator.{Operator}
 use Rattle.rules.specs.Refusals.{accepted, stale, notCarried}
@@ -59,7 +59,7 @@ module _ (s : List ℕ) where
       let b = bytesFrom s at next in
       let C = carry-taken p b d c zeroChain a in
       let r : Calls s n next (operatorLeft (callAt s at next p)) _ q = carrying-calls (apply-held H b) rest .1 in
-      (_, more e (ap (λ (l : Lent Applied). l .answer .refusal) (carried-call H b (C .1))) r)
+      (_, more e (ap (λ (l : Lent OperatorApplied). l .answer .refusal) (carried-call H b (C .1))) r)
 
   -- the boundary is carried through the same operators, to the boundary of the carried chain
   pub carrying-commutes : {d n at : ℕ} {p q : Pattern} {c c' : List ℤ} → Held p → Carrying s (suc d) n at p c q c' → boundaryOf (suc d) p c .refusal ≡ accepted →

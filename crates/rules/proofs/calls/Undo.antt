@@ -4,16 +4,16 @@ use mathlib.Core.List.{List, [], _∷_}
 use Prim.Native.Nat.{ℕ, zero, suc, _+_, _<_, _≤_}
 use native.Mathlib.Omega.{arith}
 use borrow.Author.Tests.{le-leb}
-use Rattle.rules.specs.declared.answers.Applied.{Applied}
+use Rattle.rules.specs.declared.answers.OperatorApplied.{OperatorApplied}
 use Rattle.rules.specs.declared.form.OperatorForm.{OperatorForm}
 use Rattle.rules.specs.declared.operator.Operator.{Operator}
-use Rattle.rules.specs.Refusals.{accepted}
-use Rattle.rules.specs.Complex.{Pattern, Complex, complex, countsOf, stored}
+use Rattle.rules.specs.Refusals.{accepted, noPlace}
+use Rattle.rules.specs.Complex.{Pattern, Complex, complex, stored}
 use Rattle.rules.specs.Good.{Good, Held}
 use Rattle.rules.specs.Edits.{Step, layers}
 use Rattle.rules.specs.Operators.{Faces, Outcome, edited, removed, splitStep, mergeStep, step}
 use Rattle.rules.specs.Form.{byteAt, codeOf, cellAt, operatorAt, loneOperator, facesOf}
-use Rattle.rules.specs.Calls.{Lent, lent, operatorLeft, applyCall}
+use Rattle.rules.specs.Calls.{Lent, handedBack, operatorLeft, applyCall}
 use Rattle.rules.proofs.branches.Branches.{step-each}
 use Rattle.rules.proofs.branches.Numbers.{step-numbered}
 use Rattle.rules.proofs.bytes.Decoded.{decoded}
@@ -55,15 +55,15 @@ module _ {p : Pattern} (H : Held p) (s : List ℕ) (m c list next : ℕ) (form :
   unfolding applyCall step
   split-taken =
       rw (sized-is (H .sized), good-is (H .good), form)
-      (step-each (λ (l : Lent Applied). l .answer .refusal ≡ accepted → (S : ℕ → Step) × (splitting ≡ edited S)) splitting
+      (step-each (λ (l : Lent OperatorApplied). l .answer .refusal ≡ accepted → (S : ℕ → Step) × (splitting ≡ edited S)) splitting
       (λ r q e. absurd (step-numbered _ (complex p) (Operator.Split (suc m) c list) r q e)) (λ S q e. (S, q)) (λ Y q e. absurd (split-keeps (complex p) (suc m) c _ q)))
 
-  split-call : {S : ℕ → Step} → splitting ≡ edited S → applyCall p s ≡ lent (record { counts = countsOf (layers S); refusal = accepted }) (stored (layers S))
+  split-call : {S : ℕ → Step} → splitting ≡ edited S → applyCall p s ≡ handedBack (stored (layers S)) accepted noPlace
   unfolding applyCall
   split-call q = rw (sized-is (H .sized), good-is (H .good), form, q)
 
   -- the merge call at the cell that the split added
-  merge-call : {S : ℕ → Step} → splitting ≡ edited S → applyCall (stored (layers S)) (mergeBytes m (complex p m .n)) ≡ lent (record { counts = p .counts; refusal = accepted }) p
+  merge-call : {S : ℕ → Step} → splitting ≡ edited S → applyCall (stored (layers S)) (mergeBytes m (complex p m .n)) ≡ handedBack p accepted noPlace
   unfolding applyCall step
   merge-call {S} q =
       let dim : m < 3 = omega (arith, decoded s 0 (lone-at s form) .0 .1) in
@@ -71,9 +71,9 @@ module _ {p : Pattern} (H : Held p) (s : List ℕ) (m c list next : ℕ) (form :
       let few : complex p m .n ≤ 96 = H .good .few m in
       let back : complex (stored (layers S)) ≡ layers S = complex-stored G' in
       rw (sized-is (stored-sized (layers S)), back, good-is G', merge-form m (complex p m .n) dim (omega arith), merge-after-split (H .good) m c _ S dim q)
-      (ap (λ (q : Pattern). lent (record { counts = q .counts; refusal = accepted }) q) (stored-complex p (H .sized)))
+      (ap (λ (q : Pattern). handedBack q accepted noPlace) (stored-complex p (H .sized)))
 
   -- "a merge right after a split gives back every byte": of the two calls
   pub merge-undoes-split : applyCall p s .answer .refusal ≡ accepted →
-      applyCall (operatorLeft (applyCall p s)) (mergeBytes m (complex p m .n)) ≡ lent (record { counts = p .counts; refusal = accepted }) p
+      applyCall (operatorLeft (applyCall p s)) (mergeBytes m (complex p m .n)) ≡ handedBack p accepted noPlace
   merge-undoes-split e = let S = split-taken e in rw (split-call (S .1)) (merge-call (S .1))

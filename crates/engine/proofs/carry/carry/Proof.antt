@@ -1,6 +1,7 @@
 -- `engine::carry::carry` meets its contract: each return is one of the call's answers.
 use mathlib.Core.Path.{_≡_, sym, _∙_}
 use mathlib.Core.Bool.{true, _&&_}
+use native.Mathlib.Omega.{arith}
 use borrow.Author.Needs.{needs}
 use borrow.Author.Tests.{not-true, not-false}
 use lib.ListN.{length}
@@ -11,7 +12,7 @@ use Rattle.rules.specs.Lending.{asLent}
 use Rattle.good.specs.Tested.{tested}
 use Rattle.good.proofs.Passing.{held}
 use Rattle.engine.proofs.FirstTests.{chain-long, out-long}
-use Rattle.engine.proofs.Answers.{lone-read}
+use Rattle.engine.proofs.Answers.{lone-read, lone-place}
 use Rattle.engine.proofs.CarryAnswers.{carry-short, carry-not-good, carry-form, carry-faulty, carry-done}
 use Rattle.engine.proofs.carry.carry.Statement.{statement}
 use Rattle.engine.proofs.carry.carry.Tie as tie
@@ -39,16 +40,18 @@ abbrev long : tie.Else3 → tie.Else1
 long offered = offered .before .before .before
 
 too-short : tie.Need-returns
-too-short c = carry-short _ _ _ _ _ (not-true _ (c .if1 .taken))
+too-short c = rw (c .unplaced .ensures) (carry-short _ _ _ _ _ (not-true _ (c .before .if1 .taken)))
 
 not-good : tie.Need-returns-2
-not-good c = carry-not-good _ _ _ _ _ (sized (c .before .before)) (c .before .refusal-of-pattern .ensures) (c .if2 .taken)
+not-good c =
+    let test = c .before in
+    rw (c .unplaced2 .ensures) (carry-not-good _ _ _ _ _ (sized (test .before .before)) (test .before .refusal-of-pattern .ensures) (test .if2 .taken))
 
 not-offered : tie.Need-returns-3
 not-offered c =
-    let test = c .before in
+    let test = c .before .before in
     let s = lent test in
-    carry-form (entry s) _ (s .args .d) _ _ (sized (test .before .before)) (passed test) (c .if3 .taken)
+    rw (c .unplaced3 .ensures) (carry-form (entry s) _ (s .args .d) _ _ (sized (test .before .before)) (passed test) (c .before .if3 .taken))
 
 carry-through-requires : tie.Need-carry-through-requires
 carry-through-requires c κs =
@@ -64,25 +67,35 @@ carry-through-requires c κs =
       room = out-long (entry s) (s .args .chain .now) (s .args .out .now) (sized (long test));
     }
 
+place-fits : tie.Need-cast-t23
+place-fits c =
+    let arm = c .before .before .before in
+    let form = arm .before .before in
+    let s = long (form .before) .before .before in
+    omega (arith, c .place-of .ensures, lone-place (s .args .s .now) (sym (form .form-of-operator .ensures) ∙ arm .f .given .1))
+
 not-in-form : tie.Need-returns-4
 not-in-form c =
-    let arm = c .before .before in
+    let arm = c .before .before .before in
     let form = arm .before .before in
     let test = form .before in
     let s = long test .before .before in
     carry-faulty (entry s) _ (s .args .d) _ _ (sized (long test)) (passed (test .before)) (test .if3 .left)
-    (sym (form .form-of-operator .ensures) ∙ arm .f .given .1) (c .refusal-of .ensures)
+    (sym (form .form-of-operator .ensures) ∙ arm .f .given .1) (c .before .refusal-of .ensures) (c .place-of .ensures)
 
 done : tie.Need-returns-5
 done c =
-    let arm = c .before .before .before .before in
+    let through = c .before .before in
+    let arm = through .before .before .before in
     let form = arm .before .before in
     let test = form .before in
     let s = long test .before .before in
-    carry-done (entry s) _ (s .args .d) _ _ (sized (long test)) (passed (test .before)) (test .if3 .left)
-    (sym (form .form-of-operator .ensures) ∙ arm .o .given .1) (c .before .carry-through .ensures)
+    rw (c .unplaced4 .ensures)
+    (carry-done (entry s) _ (s .args .d) _ _ (sized (long test)) (passed (test .before)) (test .if3 .left)
+    (sym (form .form-of-operator .ensures) ∙ arm .o .given .1) (through .carry-through .ensures))
 
 pub carry-spec : {M : Type 1} → statement M
 carry-spec =
-    tie.close (tie.spec too-short (λ c κs. search needs) not-good not-offered (λ c κs. search needs) (λ c. search needs) (λ c κs. search needs)
-    (λ c. search needs) carry-through-requires not-in-form (λ c. search needs) done)
+    tie.close (tie.spec (λ c κs. search needs) too-short (λ c κs. search needs) (λ c κs. search needs) not-good (λ c κs. search needs) not-offered
+    (λ c κs. search needs) (λ c. search needs) (λ c κs. search needs) (λ c κs. search needs) place-fits (λ c. search needs) carry-through-requires
+    (λ c κs. search needs) not-in-form (λ c. search needs) done)

@@ -38,7 +38,7 @@ loop-holds : tie.Need-loop-holds Inv-loop μ-loop
 loop-holds c = let s = c .before in run-starts (s .args .s .now) (s .args .n) (entry s) (s .pre)
 
 run-one-requires : tie.Need-run-one-requires Inv-loop μ-loop
-run-one-requires c κs = let t = c .before .before .before .before in t .loop .inv .held
+run-one-requires c κs = let t = c .before .before .before .before in (t .loop .inv .held, start t .pre .short)
 
 -- every pattern on the way is as long as the one at entry
 at-entry : (c : tie.At-loop Inv-loop μ-loop) → Sized (entry (start c))

@@ -7,7 +7,7 @@ use borrow.Fn.Kinds.{In}
 use borrow.Fn.PlainCycle.{Measures, is, falls, and}
 use Rattle.maths.proofs.Buffers.{two-pieces}
 use Rattle.buffer.proofs.put.Reads as put
-use Rattle.listing.proofs.Decimals.{decimal-one, decimal-more, decimal-3}
+use Rattle.listing.proofs.Decimals.{decimal-one, decimal-more, decimal-4}
 use Rattle.listing.proofs.numbers.put_decimal.Reads as put-decimal
 use Rattle.listing.proofs.numbers.put_decimal.Kinds.{ps}
 use Rattle.listing.proofs.numbers.+put_decimal.Lts-put_decimal as lts
@@ -33,7 +33,7 @@ pub +put-decimal-spec : {M : Type 1} → statement M
     record { put = rw (decimal-one _ (digit .before .before .if1 .taken)) (digit .put .ensures); most = omega arith })
     (λ c κs. (omega arith, record { small = omega arith; room = omega arith }))
     (λ c. omega arith) (λ c. omega arith)
-    (λ c κs. let start = c .before .before .before .before .before .before .before in omega (arith, decimal-3 (start .args .n / 10) (omega arith)))
+    (λ c κs. let start = c .before .before .before .before .before .before .before in omega (arith, decimal-4 (start .args .n / 10) (omega arith)))
     (λ c. search needs)
     (λ c.
     let digit = c .before .before in
@@ -43,5 +43,5 @@ pub +put-decimal-spec : {M : Type 1} → statement M
       put =
           rw (decimal-more _ (others .before .before .if1 .left) (omega arith))
           (two-pieces (others .put-decimal .ensures .put) (digit .put2 .ensures));
-      most = omega (arith, decimal-3 (start .args .n / 10) (omega arith));
+      most = omega (arith, decimal-4 (start .args .n / 10) (omega arith));
     })

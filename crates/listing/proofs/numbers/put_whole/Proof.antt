@@ -19,7 +19,7 @@ cast-put-labelled c =
 put-labelled-requires : tie.Need-put-labelled-requires
 put-labelled-requires c κs =
     let start = c .before .before .before .before in
-    rw (minus-is (start .args .z) (start .pre .small), neg-size) (start .pre)
+    rw (minus-is (start .args .z) (start .pre .small), neg-size) (record { small = omega (arith, start .pre .small); room = start .pre .room })
 
 returns : tie.Need-returns
 returns c =
@@ -40,6 +40,11 @@ cast-put-decimal c =
     let e = toZ-ofZ (start .fits .z) in
     rw e (plus-cast (start .args .z) (rw e at (test .if1 .left)), omega arith)
 
+put-decimal-requires : tie.Need-put-decimal-requires
+put-decimal-requires c κs =
+    let start = c .before .before .before in
+    rw (toZ-ofZ (start .fits .z)) (record { small = omega (arith, start .pre .small); room = omega (arith, start .pre .room) })
+
 returns-2 : tie.Need-returns-2
 returns-2 c =
     let test = c .before .before .before .before in
@@ -55,5 +60,5 @@ returns-2 c =
 pub put-whole-spec : {M : Type 1} → statement M
 put-whole-spec =
     tie.close (tie.spec (λ c. search needs) (λ c. let start = c .before .before .before .before in neg-fits w16 {x = start .args .z} refl (omega arith))
-    cast-put-labelled put-labelled-requires (λ c. search needs) returns cast-put-decimal (λ c κs. search needs) (λ c. search needs)
+    cast-put-labelled put-labelled-requires (λ c. search needs) returns cast-put-decimal put-decimal-requires (λ c. search needs)
     returns-2)

@@ -25,7 +25,7 @@ not-in-form c =
     let call = arm .before .before in
     let start = call .before .before in
     let a = start .args in
-    faulted _ (start .pre .held) (c .refusal-of .ensures)
+    faulted _ (start .pre .held) (c .faulty .ensures)
     (cell-faulty (a .s .now) (a .k) (a .at) (entry start) (sym (call .make-form .ensures) ∙ arm .f .given .1))
 
 judged : tie.Need-returns-2
@@ -46,6 +46,7 @@ read-cell-spec =
     (λ c κs. search needs)
     (λ c. search needs)
     make-requires
+    (λ c. search needs)
     not-in-form
     (λ c. search needs)
     (λ c. search needs)

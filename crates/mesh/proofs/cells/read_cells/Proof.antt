@@ -102,6 +102,7 @@ read-cells-spec =
     (λ c. omega arith)
     (λ c. omega arith)
     loop-again
+    (λ c. omega arith)
     same-length-4
     same-length-5
     same-length-6

@@ -28,7 +28,7 @@ not-in-form c =
     let call = arm .before .before in
     let start = call .before .before in
     let a = start .args in
-    faulted _ (start .pre .held) (c .refusal-of .ensures)
+    faulted _ (start .pre .held) (c .faulty .ensures)
     (section-faulty (a .s .now) (a .k) (first start) (sym (call .byte-form .ensures) ∙ arm .f .given .1))
 
 counted : tie.Need-returns-2

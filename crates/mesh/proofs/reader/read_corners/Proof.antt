@@ -7,7 +7,7 @@ use Rattle.mesh.proofs.Wholes.{corners-read, corners-refused}
 use Rattle.mesh.proofs.reader.read_corners.Statement.{statement}
 use Rattle.mesh.proofs.reader.read_corners.Tie as tie
 
-count-fits : tie.Need-cast-t8
+count-fits : tie.Need-cast-t9
 count-fits c =
     let arm = c .before in
     let call = arm .before .before in
@@ -16,9 +16,9 @@ count-fits c =
 
 not-in-form : tie.Need-returns
 not-in-form c =
-    let arm = c .before .before .before in
+    let arm = c .before .before in
     let call = arm .before .before in
-    corners-refused (call .before .before .args .s .now) (sym (call .byte-form .ensures) ∙ arm .f .given .1) (c .before .refusal-of .ensures) (c .refused .ensures)
+    corners-refused (call .before .before .args .s .now) (sym (call .byte-form .ensures) ∙ arm .f .given .1) (c .faulty .ensures)
 
 counted : tie.Need-returns-2
 counted c =
@@ -33,8 +33,8 @@ read-corners-spec =
     (λ c κs. search needs)
     (λ c. search needs)
     (λ c κs. search needs)
-    (λ c κs. search needs)
     (λ c. search needs)
     count-fits
+    (λ c. search needs)
     not-in-form
     counted)

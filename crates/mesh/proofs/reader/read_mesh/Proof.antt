@@ -1,13 +1,14 @@
 -- `mesh::reader::read_mesh` meets its contract: lengths first; then what is read is taken as it is held, or refused, and then all is cleared again.
 use mathlib.Core.Path.{_≡_, refl, sym, _∙_}
 use mathlib.Core.Bool.{true}
+use native.Mathlib.Omega.{arith}
 use borrow.Author.Needs.{needs}
 use borrow.Author.Tests.{not-true, not-false}
 use Rattle.rules.specs.Complex.{Pattern, countsOf, empty}
 use Rattle.rules.specs.Calls.{sized}
 use Rattle.rules.specs.Lending.{asLent}
 use Rattle.rules.proofs.storage.Stored.{all-sized}
-use Rattle.mesh.proofs.Wholes.{wrong-length, reading-taken, reading-refused}
+use Rattle.mesh.proofs.Wholes.{wrong-length, reading-taken, reading-refused, place-small}
 use Rattle.mesh.proofs.reader.read_mesh.Statement.{statement}
 use Rattle.mesh.proofs.reader.read_mesh.Tie as tie
 
@@ -33,9 +34,17 @@ first-cleared c κs = let test = c .before .before .before in all-sized (entry (
 abbrev passed : tie.After-read-sections → tie.Else1
 passed c = c .before .before .before .before .before .before .before .before .before .before .before
 
+place-fits : tie.Need-cast-refused
+place-fits c =
+    let cleared = c .before .before .before .before in
+    let test = cleared .before .before .before .before in
+    let call = test .before .before .before .before .before in
+    let s = start (passed call .before) in
+    omega (arith, place-small (s .args .s .now) (call .read-sections .ensures) (test .if2 .taken))
+
 not-taken : tie.Need-returns-2
 not-taken c =
-    let cleared = c .before .before .before .before in
+    let cleared = c .before .before .before .before .before in
     let test = cleared .before .before .before .before in
     let call = test .before .before .before .before .before in
     let s = start (passed call .before) in
@@ -43,9 +52,10 @@ not-taken c =
 
 taken : tie.Need-returns-3
 taken c =
-    let call = c .before .before .before .before .before in
+    let test = c .before in
+    let call = test .before .before .before .before .before in
     let s = start (passed call .before) in
-    reading-taken (s .args .s .now) (entry s) (long (passed call)) (call .read-sections .ensures) refl (c .if2 .left)
+    reading-taken (s .args .s .now) (entry s) (long (passed call)) (call .read-sections .ensures) refl (test .if2 .left)
 
 pub read-mesh-spec : {M : Type 1} → statement M
 read-mesh-spec =
@@ -60,6 +70,7 @@ read-mesh-spec =
     first-cleared
     (λ c κs. search needs)
     (λ c κs. search needs)
+    place-fits
     (λ c κs. search needs)
     (λ c. search needs)
     (λ c. search needs)

@@ -24,7 +24,7 @@ returns-2 c =
     let test = run .before .before .before .before in
     let start = test .before .before .before in
     let z = start .args .run .euler in
-    let number = toZ-ofZ (fits-size {w = w16} {z = z} (omega (arith, start .pre .euler-small))) in
+    let number = toZ-ofZ (fits-size {w = w16} {z = z} (omega (arith, start .pre .run .euler-small))) in
     rw (eq-eqb _ accepted (test .if1 .left)) (rw number at (run .put-run .ensures))
 
 pub put-head-spec : {M : Type 1} → statement M
