@@ -44,10 +44,10 @@ module _ (p : Pattern) where
   refusedBy r = handedBack p r noPlace
 
   -- no outcome has a place
-  no-place : (o : Outcome) → handedBack (appliedLeft (applied p o)) (applied p o .answer .refusal) noPlace ≡ handedBackOf p o
-  no-place (refused r) = refl
-  no-place (edited S) = refl
-  no-place (removed Y) = refl
+  outcome-unplaced : (o : Outcome) → handedBack (appliedLeft (applied p o)) (applied p o .answer .refusal) noPlace ≡ handedBackOf p o
+  outcome-unplaced (refused r) = refl
+  outcome-unplaced (edited S) = refl
+  outcome-unplaced (removed Y) = refl
 
   module _ (s : List ℕ) where
     -- 1 or 2
@@ -67,4 +67,4 @@ module _ (p : Pattern) where
     unfolding tested applyCall
     apply-done {o = o} e d q =
         let g = both-passed p e in
-        rw (g .0, g .1, d) (ap (λ (l : Lent Applied). handedBack (appliedLeft l) (l .answer .refusal) noPlace) q ∙ no-place (step o (facesOf s o) (complex p)))
+        rw (g .0, g .1, d) (ap (λ (l : Lent Applied). handedBack (appliedLeft l) (l .answer .refusal) noPlace) q ∙ outcome-unplaced (step o (facesOf s o) (complex p)))

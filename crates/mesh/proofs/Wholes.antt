@@ -16,6 +16,7 @@ use Rattle.rules.specs.Form.{isFault, byteAt}
 use Rattle.rules.specs.Mesh.{Reading, faulty, refused, taken, Place, corners, readSection, readMesh, afterReading}
 use Rattle.rules.specs.Calls.{lent, sized, noMesh, readCall}
 use Rattle.rules.proofs.bytes.Fields.{byte-says}
+use Rattle.rules.proofs.bytes.Faults.{no-place}
 use Rattle.rules.proofs.branches.Numbers.{fault-numbered}
 use Rattle.rules.proofs.texts.ReadGood.{corners-good, mesh-each}
 use Rattle.rules.proofs.storage.Stored.{complex-stored, stored-complex, stored-held}
@@ -103,7 +104,7 @@ Small y = y .1 ≤ noPlace
 places-small : (s : List ℕ) → Small (refusalOf (readMesh s))
 places-small s =
     mesh-each (λ (y : ℕ × ℕ) (x : Unit {0}). Small y) {bad' = λ r at. tt} {go' = λ X used. tt} s
-    (λ r at n L. bool-or (isFault r) (λ e. omega (arith, L .near e)) (λ e. omega (arith, L .located .nowhere e)))
+    (λ r at n L. bool-or (isFault r) (λ e. omega (arith, L .near e)) (λ e. omega (arith, no-place (L .located) e)))
     (λ X used e. omega arith)
 
 pub place-small : (s : List ℕ) {k : ℕ} {r : Part} {q : Pattern} → ReadUpTo s k r q → r .refusal ≢ accepted → r .place ≤ noPlace

@@ -14,7 +14,7 @@ use Rattle.rules.specs.Form.{scriptForm}
 use Rattle.rules.specs.Script.{Ended, Here, runFrom, sameBase, runScript}
 use Rattle.rules.specs.Calls.{Lent, sizedScript}
 use Rattle.rules.proofs.branches.Branches.{cond-each, after-each, good-each}
-use Rattle.rules.proofs.bytes.Faults.{located-inside}
+use Rattle.rules.proofs.bytes.Faults.{fault-inside}
 use Rattle.rules.proofs.storage.Stored.{stored-sized}
 use Rattle.rules.proofs.scripts.Eulers.{euler-size}
 use Rattle.rules.proofs.scripts.Runs.{run-kept, script-kept}
@@ -55,7 +55,7 @@ ended-place : {X : Complex} → Good X → (script : List ℕ) → let e = endOf
 unfolding endOf
 ended-place {X} G script =
     good-each (λ (e : Ended). PlaceSmall (e .refusal) (e .place)) (sizedScript script) (isGood X)
-    (λ l g f. omega (arith, located-inside (script-kept script G .located) f, leb-true (length script) 24576 l))
+    (λ l g f. omega (arith, fault-inside (script-kept script G .located) f, leb-true (length script) 24576 l))
     (λ f. no-eq f) (λ f. no-eq f)
 
 ended-printable : (e : Ended) → Good (e .now) → e .ran ≤ 1024 → PlaceSmall (e .refusal) (e .place) → Printable (ranTo e)

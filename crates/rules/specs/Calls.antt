@@ -1,4 +1,5 @@
--- What each public call answers, and what it leaves in every lent list, for all inputs.
+-- What each public call answers, and what it leaves in every lent list, for all inputs. "Every call that takes such bytes passes it on": reading, one
+-- operator, a script and carrying answer the place of a fault of the form, and `noPlace` where there is none.
 use mathlib.Core.Bool.{Bool, cond, _&&_}
 use mathlib.Core.List.{List, _++_}
 use Prim.Native.Nat.{ℕ}
@@ -127,6 +128,7 @@ pub record Given : Type 0 where
   pub place : ℕ
   pub out : List ℤ
 
+-- with no place: "a chain dimension fault included"
 abbrev pub given : ℕ → List ℤ → Given
 given r out = record { refusal = r; place = noPlace; out = out }
 

@@ -1,14 +1,14 @@
 -- Where a fault of the form lies: 3 at the end of the bytes, 4 and 14 at one of them; and not far behind the place where the reading began.
-use mathlib.Core.Path.{_≡_, refl, sym}
+use mathlib.Core.Path.{_≡_, refl, sym, _∙_}
 use mathlib.Core.Bool.{Bool, true, false}
 use mathlib.Core.List.{List}
 use Prim.Native.Nat.{ℕ, zero, suc, _+_, _*_, _<_, _≤_}
 use native.Mathlib.Omega.{arith}
-use borrow.Author.Tests.{eqb-true, ltb-true, ltb-false, leb-true}
+use borrow.Author.Tests.{ltb-true, ltb-false, leb-true}
 use lib.Dec.{eqb, ltb, leb}
 use lib.ListN.{length, getD}
 use Rattle.maths.specs.Repeat.{repeat}
-use Rattle.maths.proofs.Cases.{no-eq, bool-or, and-left, and-right}
+use Rattle.maths.proofs.Cases.{no-eq, and-left, and-right}
 use Rattle.rules.specs.declared.form.Fault.{Fault}
 use Rattle.rules.specs.declared.form.Field.{Field}
 use Rattle.rules.specs.declared.form.Code.{Code}
@@ -21,26 +21,24 @@ use Rattle.rules.proofs.branches.Branches.{cond-each}
 use Rattle.rules.proofs.bytes.Fields.{Byte, bad-field, bad-operator}
 
 -- "for 4 the first byte of the faulty field, for 14 the first byte left over, for 3 the length of the bytes", and no place for any other number
-pub record Located (s : List ℕ) (r at : ℕ) : Type 0 where
-  pub ends : r ≡ bytesEnd → at ≡ length s
-  pub wrong : r ≡ wrongForm → at < length s
-  pub left : r ≡ bytesLeft → at < length s
-  pub nowhere : isFault r ≡ false → at ≡ noPlace
+pub data Located (s : List ℕ) : ℕ → ℕ → Type 0 where
+  ends : Located s bytesEnd (length s)
+  wrong : {at : ℕ} → at < length s → Located s wrongForm at
+  left : {at : ℕ} → at < length s → Located s bytesLeft at
+  nowhere : {r : ℕ} → isFault r ≡ false → Located s r noPlace
 
-pub unplaced : (s : List ℕ) (r : ℕ) → isFault r ≡ false → Located s r noPlace
-unplaced s r e = record {
-  ends = λ q. no-eq (sym (rw q at e));
-  wrong = λ q. no-eq (sym (rw q at e));
-  left = λ q. no-eq (sym (rw q at e));
-  nowhere = λ _. refl;
-}
+-- so a fault's place is in the bytes, and what is no fault has none
+pub fault-inside : {s : List ℕ} {r at : ℕ} → Located s r at → isFault r ≡ true → at ≤ length s
+fault-inside ends e = omega arith
+fault-inside (wrong l) e = omega arith
+fault-inside (left l) e = omega arith
+fault-inside (nowhere n) e = no-eq (sym n ∙ e)
 
-pub located-inside : {s : List ℕ} {r at : ℕ} → Located s r at → isFault r ≡ true → at ≤ length s
-located-inside {s} {r} {at} L e =
-    bool-or (eqb r bytesEnd) (λ t. omega (arith, L .ends (eqb-true r bytesEnd t))) λ no-end.
-    bool-or (eqb r wrongForm) (λ t. omega (arith, L .wrong (eqb-true r wrongForm t))) λ no-wrong.
-    bool-or (eqb r bytesLeft) (λ t. omega (arith, L .left (eqb-true r bytesLeft t))) λ no-left.
-    no-eq (rw (no-end, no-wrong, no-left) at e)
+pub no-place : {s : List ℕ} {r at : ℕ} → Located s r at → isFault r ≡ false → at ≡ noPlace
+no-place ends e = no-eq (sym e)
+no-place (wrong l) e = no-eq (sym e)
+no-place (left l) e = no-eq (sym e)
+no-place (nowhere n) e = refl
 
 -- a fault of the bytes s, at most at `most`
 pub record Lies (s : List ℕ) (most : ℕ) (f : Fault) : Type 0 where
@@ -49,25 +47,13 @@ pub record Lies (s : List ℕ) (most : ℕ) (f : Fault) : Type 0 where
   pub near : faultPlace f ≤ most
 
 ends-lies : {s : List ℕ} {most : ℕ} → length s ≤ most → Lies s most (Fault.Ends (length s))
-ends-lies h = record {
-  located = record { ends = λ e. refl; wrong = λ e. absurd (omega arith); left = λ e. absurd (omega arith); nowhere = λ e. no-eq (sym e) };
-  inside = omega arith;
-  near = h;
-}
+ends-lies h = record { located = ends; inside = omega arith; near = h }
 
 wrong-lies : {s : List ℕ} {most at : ℕ} → at < length s → at ≤ most → Lies s most (Fault.Wrong at)
-wrong-lies l h = record {
-  located = record { ends = λ e. absurd (omega arith); wrong = λ e. l; left = λ e. absurd (omega arith); nowhere = λ e. no-eq (sym e) };
-  inside = omega arith;
-  near = h;
-}
+wrong-lies l h = record { located = wrong l; inside = omega arith; near = h }
 
 left-lies : {s : List ℕ} {most at : ℕ} → at < length s → at ≤ most → Lies s most (Fault.Left at)
-left-lies l h = record {
-  located = record { ends = λ e. absurd (omega arith); wrong = λ e. absurd (omega arith); left = λ e. l; nowhere = λ e. no-eq (sym e) };
-  inside = omega arith;
-  near = h;
-}
+left-lies l h = record { located = left l; inside = omega arith; near = h }
 
 pub further : {s : List ℕ} {near far : ℕ} {f : Fault} → near ≤ far → Lies s near f → Lies s far f
 further h L = record { located = L .located; inside = L .inside; near = omega (arith, L .near) }

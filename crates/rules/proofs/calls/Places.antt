@@ -17,7 +17,7 @@ use Rattle.rules.specs.Chains.{isChain, carryLimit, carryStep}
 use Rattle.rules.specs.Calls.{Lent, Given, sized, sizedScript, sizedChain, coefficients, readCall, applyCall, runCall, carriedBy, carryCall}
 use Rattle.rules.proofs.branches.Branches.{cond-each, step-each, carry-each, good-each}
 use Rattle.rules.proofs.branches.Numbers.{meaning-no-fault, step-meant, carry-meant}
-use Rattle.rules.proofs.bytes.Faults.{Located, unplaced, operator-or, lone-lies}
+use Rattle.rules.proofs.bytes.Faults.{Located, nowhere, operator-or, lone-lies}
 use Rattle.rules.proofs.storage.Tested.{good-true, complex-bounded}
 use Rattle.rules.proofs.scripts.Runs.{script-kept}
 use Rattle.rules.proofs.texts.ReadGood.{mesh-each}
@@ -27,8 +27,8 @@ unfolding readCall
 read-place s p =
     let P : Lent MeshRead → Type 0 = λ l. Located s (l .answer .refusal) (l .answer .place) in
     cond-each P (sized p)
-    (λ t. mesh-each (λ (l : Lent MeshRead) (x : Unit {0}). P l) {bad' = λ r at. tt} {go' = λ X used. tt} s (λ r at n L. L .located) (λ X used e. unplaced s _ refl))
-    (λ t. unplaced s _ refl)
+    (λ t. mesh-each (λ (l : Lent MeshRead) (x : Unit {0}). P l) {bad' = λ r at. tt} {go' = λ X used. tt} s (λ r at n L. L .located) (λ X used e. nowhere refl))
+    (λ t. nowhere refl)
 
 pub apply-place : (p : Pattern) (s : List ℕ) → let a = applyCall p s .answer in Located s (a .refusal) (a .place)
 unfolding applyCall
@@ -36,16 +36,16 @@ apply-place p s =
     let P : Lent OperatorApplied → Type 0 = λ l. Located s (l .answer .refusal) (l .answer .place) in
     good-each P (sized p) (isGood (complex p))
     (λ l g. operator-or P (loneOperator s) (lone-lies s) (λ f L. L .located) λ o next e _.
-    step-each P (step o (facesOf s o) (complex p)) (λ r q. unplaced s r (meaning-no-fault r (step-meant (facesOf s o) (complex p) o r q)))
-    (λ S q. unplaced s _ refl) (λ Y q. unplaced s _ refl))
-    (unplaced s _ refl) (unplaced s _ refl)
+    step-each P (step o (facesOf s o) (complex p)) (λ r q. nowhere (meaning-no-fault r (step-meant (facesOf s o) (complex p) o r q)))
+    (λ S q. nowhere refl) (λ Y q. nowhere refl))
+    (nowhere refl) (nowhere refl)
 
 pub run-place : (p : Pattern) (s : List ℕ) → let a = runCall p s .answer in Located s (a .refusal) (a .place)
 unfolding runCall
 run-place p s =
     let P : Lent ScriptRun → Type 0 = λ l. Located s (l .answer .refusal) (l .answer .place) in
     good-each P (sized p && sizedScript s) (isGood (complex p)) (λ l g. script-kept s (good-true (complex-bounded p) g) .located)
-    (unplaced s _ refl) (unplaced s _ refl)
+    (nowhere refl) (nowhere refl)
 
 -- "a chain dimension fault included": its 4 has no place
 module _ (p : Pattern) (s : List ℕ) (d : ℕ) (c out : List ℤ) where
@@ -61,7 +61,7 @@ module _ (p : Pattern) (s : List ℕ) (d : ℕ) (c out : List ℤ) where
       rw e
       (good-each P (sized p && sizedChain c && sizedChain out) (isGood (complex p))
       (λ l g. operator-or P (loneOperator s) (lone-lies s) (λ f L. L .located) λ o next e _.
-      carry-each P (carryStep o (facesOf s o) (complex p)) (λ r q. unplaced s r (meaning-no-fault r (carry-meant (facesOf s o) (complex p) o r q)))
-      (unplaced s _ refl)
-      (λ S q. cond-each P (isChain carryLimit (complex p d .n) (coefficients c)) (λ t. unplaced s _ refl) (λ t. unplaced s _ refl)))
-      (unplaced s _ refl) (unplaced s _ refl))
+      carry-each P (carryStep o (facesOf s o) (complex p)) (λ r q. nowhere (meaning-no-fault r (carry-meant (facesOf s o) (complex p) o r q)))
+      (nowhere refl)
+      (λ S q. cond-each P (isChain carryLimit (complex p d .n) (coefficients c)) (λ t. nowhere refl) (λ t. nowhere refl)))
+      (nowhere refl) (nowhere refl))

@@ -15,7 +15,7 @@ use Rattle.rules.specs.Form.{operatorAt, facesOf, scriptForm}
 use Rattle.rules.specs.Script.{Ended, endedAt, Here, runOne, runFrom, movedBy, sameBase, runScript}
 use Rattle.rules.proofs.branches.Branches.{cond-each, step-each}
 use Rattle.rules.proofs.branches.Numbers.{meaning-no-fault, step-meant}
-use Rattle.rules.proofs.bytes.Faults.{Located, unplaced, field-or, operator-or, operator-lies, script-lies}
+use Rattle.rules.proofs.bytes.Faults.{Located, nowhere, field-or, operator-or, operator-lies, script-lies}
 use Rattle.rules.proofs.bytes.Decoded.{decoded}
 use Rattle.rules.proofs.scripts.Steps.{Kept, edit-kept, removal-kept}
 
@@ -47,10 +47,10 @@ module _ (s : List ℕ) where
 
   pub run-kept : (n : ℕ) (h : Here) → Good (h .now) → Ran s n h (runFrom s n h)
   unfolding runFrom repeat runOne
-  run-kept zero h G = stopped-here zero h G (unplaced s _ refl)
+  run-kept zero h G = stopped-here zero h G (nowhere refl)
   run-kept (suc n) h G =
       operator-or (Ran s (suc n) h) (operatorAt s (h .at)) (operator-lies s (h .at)) (λ f L. stopped-here (suc n) h G (L .located)) λ o next d _.
-      step-each (Ran s (suc n) h) (step o (facesOf s o) (h .now)) (λ r q. stopped-here (suc n) h G (unplaced s r (meaning-no-fault r (step-meant (facesOf s o) (h .now) o r q))))
+      step-each (Ran s (suc n) h) (step o (facesOf s o) (h .now)) (λ r q. stopped-here (suc n) h G (nowhere (meaning-no-fault r (step-meant (facesOf s o) (h .now) o r q))))
       (λ S q. let E = edit-kept G s o (decoded s (h .at) d .0) q in one-more d (E .kept) (run-kept n _ (E .kept .good)))
       (λ Y q. let K = removal-kept G s o (decoded s (h .at) d .0) q in one-more d K (run-kept n _ (K .good)))
 
@@ -70,4 +70,4 @@ module _ (s : List ℕ) where
   script-kept {X} G =
       let start : Here = record { now = X; ran = 0; at = 7 } in
       field-or (Left X) (scriptForm s) (script-lies s) (λ f L. left (stopped-here 0 start G (L .located))) λ n _.
-      cond-each (Left X) (sameBase s X) (λ t. left (run-kept n start G)) (λ t. left (stopped-here 0 start G (unplaced s _ refl)))
+      cond-each (Left X) (sameBase s X) (λ t. left (run-kept n start G)) (λ t. left (stopped-here 0 start G (nowhere refl)))

@@ -17,7 +17,7 @@ use Rattle.rules.specs.Form.{byteAt, makeAt, facesOf, faultNumber, fault
 use Rattle.rules.specs.Mesh.{Reading, faulty, refused, taken, Place, corners, readCell, readSection, readMesh, afterReading}
 use Rattle.rules.proofs.branches.Branches.{step-each}
 use Rattle.rules.proofs.branches.Numbers.{byMeaning, meaning-numbered, meaning-no-fault, step-meant, fault-numbered}
-use Rattle.rules.proofs.bytes.Faults.{Located, unplaced, Lies, further, field-or, operator-or, byte-lies, make-lies}
+use Rattle.rules.proofs.bytes.Faults.{Located, nowhere, Lies, further, field-or, operator-or, byte-lies, make-lies}
 use Rattle.rules.proofs.bytes.Decoded.{made}
 use Rattle.rules.proofs.scripts.Steps.{edit-kept, removal-kept}
 
@@ -104,7 +104,7 @@ module _ {A B : Type 0} (P : A → B → Type 0) {bad : ℕ → ℕ → A} {go :
   sound-each s (faulty f) L h k = h (faultNumber f) (faultPlace f) (fault-numbered f) (record { located = L .located; near = λ _. L .near })
   sound-each s (refused r) n h k =
       let no : isFault r ≡ false = meaning-no-fault r n in
-      h r noPlace (meaning-numbered r n) (record { located = unplaced s r no; near = λ yes. no-eq (sym no ∙ yes) })
+      h r noPlace (meaning-numbered r n) (record { located = nowhere no; near = λ yes. no-eq (sym no ∙ yes) })
   sound-each s (taken X used) n h k = k X used refl
 
   pub mesh-each : (s : List ℕ) → ((r at : ℕ) → r ≢ accepted → MeshPlace s r at → P (bad r at) (bad' r at)) →
