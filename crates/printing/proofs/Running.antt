@@ -11,10 +11,10 @@ use Rattle.rules.specs.declared.answers.MeshRead.{MeshRead}
 use Rattle.rules.specs.declared.answers.ScriptRun.{ScriptRun}
 use Rattle.rules.specs.declared.answers.EulerNumber.{EulerNumber}
 use Rattle.rules.specs.Refusals.{accepted}
-use Rattle.rules.specs.Complex.{Pattern, Complex, pattern, stored, euler}
+use Rattle.rules.specs.Complex.{Pattern, Complex, stored, euler}
 use Rattle.rules.specs.Good.{Good, isGood}
 use Rattle.rules.specs.Script.{Ended}
-use Rattle.rules.specs.Calls.{Lent, lent, sized, sizedScript, readCall, runCall, eulerCall}
+use Rattle.rules.specs.Calls.{Lent, lent, sized, sizedScript, meshLeft, scriptLeft, readCall, runCall, eulerCall}
 use Rattle.rules.proofs.branches.Branches.{good-each}
 use Rattle.rules.proofs.storage.Stored.{complex-stored, sized-is, stored-sized}
 use Rattle.rules.proofs.storage.Tested.{good-is}
@@ -25,30 +25,23 @@ use Rattle.engine.proofs.ScriptAnswers.{answered}
 use Rattle.printing.specs.declared.run.InputRun.{InputRun}
 use Rattle.printing.specs.Input.{endOf, ranTo, runInput}
 
--- the pattern that a call leaves, with its counts
-abbrev meshHeld : Lent MeshRead → Pattern
-meshHeld l = pattern (l .answer .counts) (l .m1) (l .m2) (l .m3)
-
-abbrev scriptHeld : Lent ScriptRun → Pattern
-scriptHeld l = pattern (l .answer .counts) (l .m1) (l .m2) (l .m3)
-
 -- what is answered after a mesh that is refused, and after a script
 abbrev notRun : Lent MeshRead → Lent InputRun
 notRun l =
     let r = l .answer in
-    lent (record { mesh = r .refusal; ran = 0; refusal = 0; place = r .place; counts = r .counts; euler = pos 0 }) (meshHeld l)
+    lent (record { mesh = r .refusal; ran = 0; refusal = 0; place = r .place; counts = r .counts; euler = pos 0 }) (meshLeft l)
 
 abbrev hasRun : Lent ScriptRun → EulerNumber → Lent InputRun
 hasRun l z =
     let r = l .answer in
-    lent (record { mesh = accepted; ran = r .ran; refusal = r .refusal; place = r .place; counts = r .counts; euler = z .number }) (scriptHeld l)
+    lent (record { mesh = accepted; ran = r .ran; refusal = r .refusal; place = r .place; counts = r .counts; euler = z .number }) (scriptLeft l)
 
 -- a mesh that was taken: a good pattern is stored, and what is answered is what the script after it leads to
 pub record MeshTaken (s : List ℕ) (l : Lent MeshRead) (m : Lent InputRun) : Type 0 where
   pub read : Complex
   pub good : Good read
   pub inside : l .answer .used ≤ length s
-  pub held : meshHeld l ≡ stored read
+  pub held : meshLeft l ≡ stored read
   pub then : ranTo (endOf (drop (l .answer .used) s) read) ≡ m
 
 module _ (s : List ℕ) (p : Pattern) (long : sized p ≡ true) {l : Lent MeshRead} (read : l ≡ readCall s p) where
@@ -85,7 +78,7 @@ euler-ended {X} G = rw (sized-is (stored-sized X), complex-stored G, good-is G)
 
 -- a mesh that was taken, and its script run
 module _ {s : List ℕ} {l : Lent MeshRead} {m : Lent InputRun} (T : MeshTaken s l m) where
-  pub script-ran : {d : Lent ScriptRun} {z : EulerNumber} → d ≡ runCall (meshHeld l) (drop (l .answer .used) s) → z ≡ eulerCall (scriptHeld d) →
+  pub script-ran : {d : Lent ScriptRun} {z : EulerNumber} → d ≡ runCall (meshLeft l) (drop (l .answer .used) s) → z ≡ eulerCall (scriptLeft d) →
       hasRun d z ≡ m
   script-ran {d} {z} e f =
       let script = drop (l .answer .used) s in

@@ -4,10 +4,10 @@ use mathlib.Core.Logic.{_≢_}
 use mathlib.Core.Bool.{Bool, true, false, not, _&&_}
 use Prim.Native.Nat.{ℕ, suc, pred, _<_}
 use native.Mathlib.Omega.{arith}
-use borrow.Author.Tests.{ltb-true, not-true, ne-eqb}
-use Rattle.maths.proofs.Cases.{and-left, and-right}
 use lib.Dec.{eqb, ltb}
 use lib.IntN.{_+ℤ_}
+use borrow.Author.Tests.{ltb-true, not-true, ne-eqb}
+use Rattle.maths.proofs.Cases.{and-left, and-right}
 use Rattle.rules.specs.declared.form.Fault.{Fault}
 use Rattle.rules.specs.declared.operator.Operator.{Operator}
 use Rattle.rules.specs.declared.operator.Operator.the-variants.{Make, Kill, Split, Merge, Flip}

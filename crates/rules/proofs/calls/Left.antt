@@ -1,6 +1,6 @@
 -- Demands 1 and 2 of the calls of one operator and of a script, in counts and bytes: what is left is good whatever was refused, the Euler number has
 -- moved by the listed amounts, and a script that is faulty or stale runs nothing.
-use mathlib.Core.Path.{_≡_, refl, sym, _∙_, ap}
+use mathlib.Core.Path.{_≡_, sym, _∙_, ap}
 use mathlib.Core.Logic.{_≢_}
 use mathlib.Core.Bool.{true, false}
 use mathlib.Core.List.{List}
