@@ -12,6 +12,9 @@ static uint8_t mesh[MBYASOKA_MESH_BYTES], out[MBYASOKA_MESH_BYTES], script[MBYAS
 static int8_t m1[MBYASOKA_SIZE], m2[MBYASOKA_SIZE], m3[MBYASOKA_SIZE];
 static int32_t chain[MBYASOKA_SIDE], carried[MBYASOKA_SIDE];
 static size_t mesh_length, script_length, number;
+static uint8_t text[MBYASOKA_OFF_BYTES + 1];
+static int32_t coordinates[MBYASOKA_COORDINATES];
+static size_t text_length;
 static uint16_t ran;
 static uint32_t place;
 static int16_t euler;
@@ -44,6 +47,17 @@ static void *carry(void *x)
     return x;
 }
 
+static void *import_off(void *x)
+{
+    refusal = mbyasoka_import_off(counts, LENT, coordinates, MBYASOKA_COORDINATES, text, text_length);
+    return x;
+}
+static void *export_off(void *x)
+{
+    refusal = mbyasoka_export_off(counts, LENT, coordinates, MBYASOKA_COORDINATES, out, sizeof out, &number);
+    return x;
+}
+
 /* n cells of each dimension, each panel and block with as many faces; panel j is plus or minus the same ring, by turns. */
 static void make_mesh(uint8_t n, uint8_t faces)
 {
@@ -63,6 +77,22 @@ static void make_mesh(uint8_t n, uint8_t faces)
         }
     }
     mesh_length = at;
+}
+
+/* The longest OFF text. */
+static void make_text(void)
+{
+    char *at = (char *)text;
+    at += sprintf(at, "OFF\n96 96 96\n");
+    for (int i = 0; i < 96; i++)
+        at += sprintf(at, "-1048576 -1048576 -1048576\n");
+    for (int j = 0; j < 96; j++) {
+        at += sprintf(at, "96");
+        for (int i = 0; i < 96; i++)
+            at += sprintf(at, " %d", i * 35 % 96);
+        at += sprintf(at, "\n");
+    }
+    text_length = (size_t)(at - (char *)text);
 }
 
 /* 1,024 operators: every kind in every dimension. */
@@ -128,5 +158,10 @@ int main(void)
         failed = 1;
     row("carry", carry);
     row("apply_operator", apply_split);
+    make_text();
+    row("import_off", import_off);
+    row("export_off", export_off);
+    if (number != MBYASOKA_OFF_BYTES || memcmp(out, text, number) != 0)
+        failed = 1;
     return failed;
 }

@@ -1,4 +1,4 @@
-//! Meshes and scripts at the limits.
+//! Meshes, scripts and OFF texts at the limits.
 
 /// n corners, seams, panels and blocks; each panel and block has `faces` faces.
 fn mesh(n: u8, faces: u8) -> Vec<u8> {
@@ -35,6 +35,27 @@ fn loose_mesh() -> Vec<u8> {
 /// The triangle: three corners, three seams, one panel.
 pub fn small_mesh() -> Vec<u8> {
     vec![3, 3, 0, 2, 0, 1, 1, 2, 1, 3, 0, 2, 1, 1, 2, 1, 0]
+}
+
+/// The largest OFF text: 96 corners, every coordinate with a minus and seven digits, and 96 panels of 96 corners, one way round and the
+/// other by turns.
+pub fn full_off() -> Vec<u8> {
+    let mut text = "OFF\n96 96 96\n".to_string();
+    for i in 0..96 {
+        let [x, y, z] = [0, 96, 192].map(|more| -1_000_000 - 168 * (i + more));
+        text += &format!("{x} {y} {z}\n");
+    }
+    for panel in 0..96 {
+        let step = if panel % 2 == 0 { 35 } else { 96 - 35 };
+        let ring: String = (0..96).map(|i| format!(" {}", i * step % 96)).collect();
+        text += &format!("96{ring}\n");
+    }
+    text.into_bytes()
+}
+
+/// A hat of six gores, 19 corners.
+pub fn small_off() -> Vec<u8> {
+    include_bytes!("../../examples/off/hat.off").to_vec()
 }
 
 /// 1,024 operators on n cells of each dimension, by turns those of `round`.

@@ -3,8 +3,10 @@ mod inputs;
 mod plain;
 
 use inputs::Timed;
-use mbyasoka::{Pattern as Engine, Run, SIZE};
+use mbyasoka::{Pattern as Engine, Run, COORDINATES, SIZE};
 use plain::mesh::{read_mesh, write_mesh};
+use plain::off_export::export_off;
+use plain::off_import::import_off;
 use plain::pattern::{check, check_nested, Pattern as Plain};
 use plain::script::{apply_operator, euler, run_script};
 use plain::{chains, NO_PLACE};
@@ -109,6 +111,20 @@ fn other_calls(mesh: &[u8]) {
     assert_eq!(oe, op);
 }
 
+/// An OFF text that is exported as it stands.
+fn in_and_out(size: &str, text: &[u8], calls: u32) {
+    let (mut e, mut p) = (Box::<Engine>::default(), Box::new(Plain::empty()));
+    let (mut ce, mut cp) = ([1; COORDINATES], [2; COORDINATES]);
+    let mut out = [vec![0u8; text.len()], vec![0u8; text.len()]];
+    let [oe, op] = &mut out;
+    let (import, import_plain) = (|| e.import_off(black_box(text), &mut ce), || import_off(black_box(text), &mut p, &mut cp));
+    row(&format!("import, {size}"), calls, import, import_plain);
+    assert!(same(&e, &p) && ce == cp);
+    assert_eq!((e.export_off(&ce, oe), export_off(&p, &cp, op)), (Ok(text.len()), (text.len(), 0)));
+    row(&format!("export, {size}"), calls, || black_box(&e).export_off(&ce, oe), || export_off(black_box(&p), &cp, op));
+    assert!(out[0] == text && out[1] == text);
+}
+
 fn head(title: &str) {
     println!("\n| {title} | engine, ns | plain Rust, ns | ratio |\n|---|---|---|---|");
 }
@@ -123,4 +139,7 @@ fn main() {
     inputs::scripts().iter().for_each(full_script);
     head("other calls, 96 of everything");
     other_calls(&inputs::full_mesh());
+    head("OFF texts");
+    in_and_out("the largest OFF", &inputs::full_off(), 20);
+    in_and_out("the hat", &inputs::small_off(), 400);
 }

@@ -3,7 +3,7 @@
 use crate::coverage::{call_name, Call, Coverage};
 use crate::engine;
 use crate::lending::{hex, lend, Twice};
-use crate::patterns::Pattern;
+use crate::patterns::{Pattern, Placed};
 use crate::random::Random;
 use std::fmt::Debug;
 use std::io::Write;
@@ -50,6 +50,18 @@ fn differing(matrices: &[Twice<i8>; 3]) -> Option<String> {
     named.into_iter().find_map(|(name, matrix)| matrix.difference(name))
 }
 
+fn placed_text(placed: &Placed) -> String {
+    format!("{}  coordinates {}\n", pattern_text(&placed.pattern), hex(&placed.coordinates))
+}
+
+/// The lock is kept to the end, so that the other half prints nothing more.
+fn end(report: &str) -> ! {
+    let mut out = std::io::stdout().lock();
+    // Where nothing can be printed, the status still tells.
+    let _ = out.write_all(report.as_bytes());
+    std::process::exit(1);
+}
+
 /// Whether an answer is about the form of the bytes.
 fn of_form(number: u8) -> bool {
     matches!(number, 3 | 4 | 14)
@@ -73,8 +85,6 @@ impl Comparison {
         if engine == second && buffer.is_none() {
             return;
         }
-        // The lock is kept to the end, so that the other half prints nothing more.
-        let mut out = std::io::stdout().lock();
         let report = format!(
             "DIFFERENCE in {}, call {} of {}\n{}  engine answers {engine:?}, second {second:?}\n  \
              first difference in a lent buffer: {}\n",
@@ -84,9 +94,14 @@ impl Comparison {
             arguments(),
             buffer.as_deref().unwrap_or("none"),
         );
-        // Where nothing can be printed, the status still tells.
-        let _ = out.write_all(report.as_bytes());
-        std::process::exit(1);
+        end(&report);
+    }
+
+    /// Ends the program where calls that agree break a promise about several of them.
+    pub fn promise(&self, holds: bool, promise: &str, arguments: impl Fn() -> String) {
+        if !holds {
+            end(&format!("BROKEN after call {} of {}: {promise}\n{}", self.calls, self.part, arguments()));
+        }
     }
 
     /// Answers the refusal.
@@ -197,5 +212,37 @@ impl Comparison {
         let form = of_form(first.0) && chain.dimension < 4;
         self.coverage.place(Call::Carry, first.0, first.2, form.then(|| second::operator_fault(bytes)));
         self.coverage.carried(bytes, chain.dimension, chain.coefficients, first.0);
+    }
+
+    /// Imports over whatever the matrices and the list of `over` hold; answers the refusal and what the call left.
+    pub fn import_off(&mut self, text: &[u8], over: &Placed) -> (u8, Placed) {
+        let (mut matrices, mut lists, mut texts) = (twice(&over.pattern), Twice::of(&over.coordinates), Twice::of(text));
+        let [ours, [m1, m2, m3]] = lend(&mut matrices);
+        let ([list, theirs], [own, same]) = (lists.lent(), texts.lent());
+        let first = engine::import_off(ours, list, own, self.rubbish.next());
+        let second = second::import_off(same, m1, m2, m3, theirs);
+        let lent = differing(&matrices).or_else(|| lists.difference("coordinates")).or_else(|| texts.difference("text"));
+        self.judge(Call::ImportOff, [first, second], lent, || format!("  text {}\n  over {}", hex(text), placed_text(over)));
+        self.coverage.answer(Call::ImportOff, first.0);
+        self.coverage.imported(first.0, || second::off_fault(text));
+        let pattern = Pattern { counts: first.1, matrices: matrices.map(|matrix| matrix.left().to_vec()) };
+        (first.0, Placed { pattern, coordinates: lists.left().to_vec() })
+    }
+
+    /// Answers the refusal and the text that was written.
+    pub fn export_off(&mut self, placed: &Placed, out: &[u8]) -> (u8, Vec<u8>) {
+        let (pattern, coordinates) = (&placed.pattern, &placed.coordinates);
+        let (mut matrices, mut lists, mut outs) = (twice(pattern), Twice::of(coordinates), Twice::of(out));
+        let [ours, [m1, m2, m3]] = lend(&mut matrices);
+        let ([list, same], [own, theirs]) = (lists.lent(), outs.lent());
+        let first = engine::export_off(pattern.counts, ours, list, own, self.rubbish.next());
+        let (refusal, written) = second::export_off(pattern.counts, m1, m2, m3, same, theirs);
+        let second = (refusal, pattern.counts, written);
+        let lent = differing(&matrices).or_else(|| lists.difference("coordinates")).or_else(|| outs.difference("out"));
+        self.judge(Call::ExportOff, [first, second], lent, || format!("{}  out {}\n", placed_text(placed), hex(out)));
+        self.coverage.answer(Call::ExportOff, first.0);
+        let [m1, m2, m3] = &pattern.matrices;
+        self.coverage.exported(first.0, placed, || second::off_obstacle(pattern.counts, m1, m2, m3));
+        (first.0, outs.left()[..first.2].to_vec())
     }
 }

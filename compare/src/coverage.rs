@@ -1,10 +1,12 @@
 //! Which numbers and places were answered, which operators were accepted or refused, which chains were accepted, and which damages found.
 
 use crate::damaged::WAYS;
+use crate::off_coverage::OffCoverage;
 use crate::operators::CODES;
+use crate::patterns::Placed;
 use crate::places::Places;
 use crate::tables::{row, table};
-use second::Fault;
+use second::{Fault, OffFault, OffObstacle};
 use std::collections::BTreeSet;
 
 #[derive(Clone, Copy)]
@@ -17,10 +19,12 @@ pub enum Call {
     RunScript,
     Boundary,
     Carry,
+    ImportOff,
+    ExportOff,
 }
 
 /// Each call's name and the numbers that it may answer. All of them must be reached.
-const CALLS: [(&str, &[usize]); 8] = [
+const CALLS: [(&str, &[usize]); 10] = [
     ("check", &[0, 1, 2]),
     ("read_mesh", &[0, 1, 3, 4, 5, 7]),
     ("write_mesh", &[0, 1, 2, 15]),
@@ -29,6 +33,8 @@ const CALLS: [(&str, &[usize]); 8] = [
     ("run_script", &[0, 1, 2, 3, 4, 5, 6, 7, 8, 9, 10, 11, 12, 13, 14]),
     ("boundary", &[0, 1, 2, 4, 16]),
     ("carry", &[0, 1, 2, 3, 4, 5, 6, 7, 9, 10, 14, 16, 17]),
+    ("import_off", &[0, 1, 5, 6, 7, 18]),
+    ("export_off", &[0, 1, 2, 15, 18, 19]),
 ];
 
 /// The numbers that an operator of good form may be answered on a good pattern.
@@ -61,12 +67,13 @@ pub fn call_name(call: Call) -> &'static str {
 
 #[derive(Default)]
 pub struct Coverage {
-    answered: [[u64; 18]; 8],
-    meant: [[u64; 18]; 17],
+    answered: [[u64; 20]; 10],
+    meant: [[u64; 20]; 17],
     carried: [[u64; 4]; 17],
     bounded: [u64; 4],
     damaged: [[u64; 3]; WAYS.len()],
     places: Places,
+    pub off: OffCoverage,
     strange: BTreeSet<String>,
 }
 
@@ -136,10 +143,25 @@ impl Coverage {
         }
     }
 
+    /// The answer to a text; `fault` finds what is wrong with its form.
+    pub fn imported(&mut self, number: u8, fault: impl Fn() -> Option<OffFault>) {
+        if number == 18 && !self.off.faulty(fault()) {
+            self.strange("import_off answered 18 to a text of good form".to_string());
+        }
+    }
+
+    /// The answer to a pattern that was to become a text; `obstacle` finds what stands against it.
+    pub fn exported(&mut self, number: u8, placed: &Placed, obstacle: impl Fn() -> Option<OffObstacle>) {
+        if number == 19 && !self.off.hindered(obstacle()) {
+            self.strange("export_off answered 19 to a pattern that has a text".to_string());
+        }
+        self.off.coordinates(number, placed);
+    }
+
     fn counts(&mut self) -> impl Iterator<Item = &mut u64> {
         let numbers = self.answered.iter_mut().chain(&mut self.meant).flatten();
         let chains = self.carried.iter_mut().chain([&mut self.bounded]).flatten();
-        numbers.chain(chains).chain(self.damaged.iter_mut().flatten()).chain(self.places.counts())
+        numbers.chain(chains).chain(self.damaged.iter_mut().flatten()).chain(self.places.counts()).chain(self.off.counts())
     }
 
     pub fn add(&mut self, mut other: Coverage) {
@@ -158,11 +180,12 @@ impl Coverage {
         let bounded = row("boundary", &[1, 2, 3], &self.bounded);
         let damaged = WAYS.iter().zip(&self.damaged).map(|(way, counts)| row(way, &[2], counts));
         let tables = [
-            table("call", "answered", 0..18, calls.collect()),
+            table("call", "answered", 0..20, calls.collect()),
             table("operator", "answered", (0..1).chain(5..13), operators.collect()),
             table("chain of dim.", "accepted a chain of dimension", 0..4, std::iter::once(bounded).chain(carried).collect()),
             table("damage", "met refusal", 2..3, damaged.collect()),
             table("place", "was the place of", [3, 4, 14].into_iter(), self.places.rows()),
+            table("OFF", "met answer", [0, 5, 6, 7, 18, 19].into_iter(), self.off.rows()),
         ];
         self.strange.iter().cloned().chain(tables.into_iter().flatten()).collect()
     }
@@ -183,7 +206,7 @@ fn length(bytes: &[u8]) -> usize {
 #[cfg(test)]
 mod tests {
     use super::*;
-    use crate::places;
+    use crate::{off_coverage, places};
     use second::Field;
 
     fn missed(coverage: &Coverage, fault: &str) -> bool {
@@ -196,16 +219,16 @@ mod tests {
         let numbers = CALLS.iter().map(|call| call.1.len()).chain(CODES.map(|code| meanings(code).len()));
         let carried = 4 * CODES.iter().filter(|&&code| carries(code)).count();
         let placed: usize = places::CALLS.map(places::kinds).iter().sum();
-        assert_eq!(faults.len(), numbers.sum::<usize>() + carried + 3 + WAYS.len() + placed);
+        assert_eq!(faults.len(), numbers.sum::<usize>() + carried + 3 + WAYS.len() + placed + off_coverage::KINDS);
     }
 
     #[test]
     fn a_number_that_may_not_be_answered_is_a_fault() {
         let mut coverage = Coverage::default();
         coverage.answer(Call::Check, 3);
-        coverage.answer(Call::Check, 18);
+        coverage.answer(Call::Check, 20);
         coverage.operator(0x51, 6);
-        for fault in ["check answered 3, 1 times", "check answered 18", "flip 1 answered 6, 1 times"] {
+        for fault in ["check answered 3, 1 times", "check answered 20", "flip 1 answered 6, 1 times"] {
             assert!(missed(&coverage, fault), "{fault}");
         }
     }

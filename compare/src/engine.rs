@@ -78,3 +78,14 @@ pub fn carry(
     let (refusal, counts) = call!(mbyasoka_carry, counts, [m1, m2, m3, bytes], [dimension], [chain, out], [&mut place]);
     (refusal, counts, place)
 }
+
+pub fn import_off([m1, m2, m3]: Matrices, coordinates: &mut [i32], text: &mut [u8], rubbish: u64) -> (u8, Counts) {
+    call!(mbyasoka_import_off, (rubbish as u32).to_le_bytes(), [m1, m2, m3, coordinates, text], [], [], [])
+}
+
+/// And how many bytes were written.
+pub fn export_off(counts: Counts, [m1, m2, m3]: Matrices, coordinates: &mut [i32], out: &mut [u8], rubbish: u64) -> (u8, Counts, usize) {
+    let mut written = rubbish as usize;
+    let (refusal, counts) = call!(mbyasoka_export_off, counts, [m1, m2, m3, coordinates, out], [&mut written], [], []);
+    (refusal, counts, written)
+}

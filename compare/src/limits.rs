@@ -4,8 +4,9 @@
 use crate::calls::Chain;
 use crate::chains::{beyond, out, BOUNDARY_LIMIT, CARRY_LIMIT, DIMENSIONS};
 use crate::damaged::{spoiled, CHAIN_LENGTHS, MATRIX_LENGTHS, WAYS};
+use crate::off_sweeps::LIST_LENGTH;
 use crate::operators::{fitting, mistaken, CODES};
-use crate::patterns::Pattern;
+use crate::patterns::{Pattern, Placed};
 use crate::scripts::script;
 use crate::sweeps::Sweeps;
 use second::LIMIT;
@@ -57,6 +58,8 @@ impl Sweeps<'_> {
         let chain = Chain { dimension: 1, coefficients: &[0; LIMIT], out: &[7; LIMIT] };
         self.comparison.boundary(pattern, &chain);
         self.comparison.carry(pattern, operator, &chain);
+        let placed = Placed { pattern: pattern.clone(), coordinates: vec![0; LIST_LENGTH] };
+        self.comparison.export_off(&placed, &out);
         answer
     }
 
@@ -78,6 +81,7 @@ impl Sweeps<'_> {
                 resized.matrices[matrix].resize(length, 0);
                 self.every_call(&resized, &[0x10]);
                 self.comparison.read_mesh(&mesh, &resized);
+                self.comparison.import_off(b"OFF 0 0 0", &Placed { pattern: resized, coordinates: vec![7; LIST_LENGTH] });
             }
         }
     }

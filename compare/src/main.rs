@@ -14,6 +14,11 @@ mod inputs;
 mod lending;
 mod limits;
 mod meshes;
+mod off_coverage;
+mod off_faults;
+mod off_rounds;
+mod off_sweeps;
+mod off_texts;
 mod operators;
 mod patterns;
 mod places;
@@ -40,14 +45,17 @@ const CALLS: u64 = 240_000;
 const SEED: u64 = 1;
 const USAGE: &str = "[CALLS] [SEED] | program COMMAND [ARGS...] | corpus FOLDER [--check]";
 
-/// One of the two halves of a run: the first begins with the sweeps, which always run whole, and
+/// One of the two halves of a run: each begins with sweeps, the second with those of OFF texts, which always run whole, and
 /// both go on at random until there are as many calls.
 fn half(first: bool, calls: u64, seed: u64) -> Comparison {
     let name = if first { "first" } else { "second" };
     let mut comparison = Comparison::new(format!("the {name} half, seed {seed}"));
     let mut random = Random::new(seed);
+    let mut sweeps = Sweeps::new(&mut comparison, Random::new(random.next()));
     if first {
-        Sweeps::new(&mut comparison, Random::new(random.next())).run();
+        sweeps.run();
+    } else {
+        sweeps.off();
     }
     let own = if first { random.next() } else { !random.next() };
     Rounds::new(&mut comparison, Random::new(own)).run(calls);

@@ -15,6 +15,13 @@ pub struct Pattern {
     pub matrices: [Vec<i8>; 3],
 }
 
+/// A pattern with its corners' coordinates, as they are lent or left.
+#[derive(Clone)]
+pub struct Placed {
+    pub pattern: Pattern,
+    pub coordinates: Vec<i32>,
+}
+
 impl Pattern {
     pub fn empty() -> Self {
         Pattern { counts: [0; 4], matrices: [0; 3].map(|entry| vec![entry; MATRIX_LENGTH]) }

@@ -13,8 +13,8 @@ use crate::scripts;
 const SIZES: [usize; 10] = [3, 8, 12, 20, 30, 50, 80, 140, 250, 380];
 
 pub struct Rounds<'a> {
-    comparison: &'a mut Comparison,
-    random: Random,
+    pub comparison: &'a mut Comparison,
+    pub random: Random,
     pool: Vec<Pattern>,
 }
 
@@ -43,7 +43,7 @@ impl<'a> Rounds<'a> {
         let size = SIZES[at % SIZES.len()];
         let sound = self.pool[at].clone();
         let pattern = lent(&mut self.random, &sound);
-        match self.random.below(100) {
+        match self.random.below(110) {
             0..=19 => self.grow(at, size),
             20..=39 => self.operator(&pattern, &sound),
             40..=51 => self.read(&pattern, &sound),
@@ -54,7 +54,9 @@ impl<'a> Rounds<'a> {
             64..=66 => self.comparison.euler(&pattern),
             67..=78 => self.script(&pattern, &sound, size),
             79..=87 => self.boundary(&pattern),
-            _ => self.carry(&pattern, &sound),
+            88..=99 => self.carry(&pattern, &sound),
+            100..=104 => self.import(&pattern),
+            _ => self.export(&pattern),
         }
     }
 

@@ -43,7 +43,7 @@ impl<'a> Sweeps<'a> {
     }
 
     /// Matrices full of junk, to be read over.
-    fn junk(&mut self) -> Pattern {
+    pub fn junk(&mut self) -> Pattern {
         let mut pattern = Pattern::empty();
         for matrix in &mut pattern.matrices {
             *matrix = self.random.junk(matrix.len()).iter().map(|&byte| byte as i8).collect();

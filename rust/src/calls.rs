@@ -11,7 +11,8 @@ pub type Counts = [u8; 4];
 pub type Matrices<'a> = [&'a [i8]; 3];
 pub type MatricesMut<'a> = [&'a mut [i8]; 3];
 
-/// A call: what stands before the matrices, the matrices, each by its pointer and its length, and what stands after them.
+/// A call: what stands before the matrices, the matrices and a list of coordinates, each by its pointer and its length, and what stands
+/// after them.
 ///
 /// Safety: each pointer and length below is that of a slice or a place that lives through the call, places that are written to are lent
 /// by `&mut` alone, and the engine is proved to stay inside what it is lent.
@@ -71,4 +72,18 @@ pub fn carry(counts: Counts, [m1, m2, m3]: Matrices, bytes: &[u8], dimension: u8
         bytes.as_ptr(), bytes.len(), dimension, chain.as_ptr(), chain.len(), out.as_mut_ptr(), out.len(), &mut place
     ]);
     (refusal, place)
+}
+
+/// Refusal, counts.
+pub fn import_off([m1, m2, m3]: MatricesMut, coordinates: &mut [i32], text: &[u8]) -> (u8, Counts) {
+    let mut counts = [0; 4];
+    let refusal = call!(mbyasoka_import_off, [&mut counts], as_mut_ptr [m1, m2, m3, coordinates], [text.as_ptr(), text.len()]);
+    (refusal, counts)
+}
+
+/// Refusal, bytes written.
+pub fn export_off(counts: Counts, [m1, m2, m3]: Matrices, coordinates: &[i32], out: &mut [u8]) -> (u8, usize) {
+    let mut written = 0;
+    let refusal = call!(mbyasoka_export_off, [&counts], as_ptr [m1, m2, m3, coordinates], [out.as_mut_ptr(), out.len(), &mut written]);
+    (refusal, written)
 }

@@ -1,18 +1,21 @@
 //! The engine for Rust: a pattern with the calls as methods, safe and with no heap. `calls` has the same on lent slices.
-//! docs/FORMATS.md says what a good pattern is and the bytes of meshes, scripts and operators; include/mbyasoka.h, for each call, the order
-//! of its refusals, the stack it takes and what the archive needs.
+//! docs/FORMATS.md says what a good pattern is and the bytes of meshes, scripts, operators and OFF texts; include/mbyasoka.h, for each
+//! call, the order of its refusals, the stack it takes and what the archive needs.
 pub mod calls;
 pub mod limits;
 pub mod raw;
 mod refusal;
 
-pub use limits::{SIDE, SIZE};
+pub use limits::{COORDINATES, SIDE, SIZE};
 pub use refusal::Refusal;
 
 /// Raised by one with each change that a caller can see, as in include/mbyasoka.h.
-pub const VERSION: u32 = 2;
+pub const VERSION: u32 = 3;
 
 pub type Chain = [i32; SIDE];
+
+/// x, y and z of each corner, one corner after another.
+pub type Coordinates = [i32; COORDINATES];
 
 /// What became of a script. **Where an operator was refused (5 to 12), the `ran` before it have changed the pattern and stay.**
 #[derive(Clone, Copy, Debug, PartialEq, Eq)]
@@ -107,5 +110,18 @@ impl Pattern {
     pub fn carry(&self, operator: &[u8], dimension: u8, chain: &Chain, out: &mut Chain) -> Result<(), Refusal> {
         let (refusal, place) = calls::carry(self.counts, self.lent(), operator, dimension, chain, out);
         accepted(refusal, place, ())
+    }
+
+    /// Imports an OFF text, with its corners' coordinates; a refused one leaves the empty pattern and all coordinates 0.
+    pub fn import_off(&mut self, text: &[u8], coordinates: &mut Coordinates) -> Result<(), Refusal> {
+        let (refusal, counts) = calls::import_off(self.lent_mut(), coordinates, text);
+        self.counts = counts;
+        unplaced(refusal, ())
+    }
+
+    /// Exports the pattern, with its corners at these coordinates, as an OFF text and answers how many bytes it wrote.
+    pub fn export_off(&self, coordinates: &Coordinates, out: &mut [u8]) -> Result<usize, Refusal> {
+        let (refusal, written) = calls::export_off(self.counts, self.lent(), coordinates, out);
+        unplaced(refusal, written)
     }
 }

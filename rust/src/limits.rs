@@ -16,3 +16,9 @@ pub const OPERATOR_BYTES: usize = 194;
 pub const BOUNDARY_LIMIT: i32 = 1_000_000;
 /// Largest coefficient of a chain that is carried, plus or minus.
 pub const CARRY_LIMIT: i32 = 100_000_000;
+/// Coordinates of a list: x, y, z of each of 96 corners.
+pub const COORDINATES: usize = 3 * SIDE;
+/// Largest coordinate, plus or minus.
+pub const COORDINATE_LIMIT: i32 = 1_048_576;
+/// The longest OFF text that is exported; one that is imported may have any length.
+pub const OFF_BYTES: usize = 29_581;

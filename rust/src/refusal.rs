@@ -28,6 +28,8 @@ impl Refusal {
     pub const SHORT_OUTPUT: u8 = 15;
     pub const WRONG_CHAIN: u8 = 16;
     pub const NOT_CARRIED: u8 = 17;
+    pub const WRONG_OFF: u8 = 18;
+    pub const NOT_PLAIN: u8 = 19;
 
     /// What the functions of `calls` answer where there is no place.
     pub const NO_PLACE: u32 = 4_294_967_295;
@@ -36,13 +38,13 @@ impl Refusal {
     pub fn text(&self) -> &'static str {
         match self.number {
             0 => "accepted",
-            Self::WRONG_LENGTH => "a lent matrix or chain has a wrong length, or the script is too long",
+            Self::WRONG_LENGTH => "a lent matrix, chain or list of coordinates has a wrong length, or the script is too long",
             Self::NOT_GOOD => "the lent pattern is not good",
             Self::BYTES_END => "the bytes end too early",
             Self::WRONG_FORM => "an impossible value was given",
             Self::NO_SUCH_CELL => "a cell is named that is not there",
             Self::NO_ROOM => "there is no room for a new cell, 96 of a dimension are the most",
-            Self::NOT_CLOSED => "a panel or block has no faces or does not sew shut, or a seam ends where it begins",
+            Self::NOT_CLOSED => "a panel or block has no faces, does not sew shut or is no ring, or a seam ends where it begins",
             Self::IN_USE => "a cell that is to be killed is a face of another",
             Self::WRONG_PART => "a split lists no face of the cell, all of them, or one that it does not have",
             Self::WRONG_DIVIDER => "the dividing cell of a split would be no seam or no panel",
@@ -50,9 +52,11 @@ impl Refusal {
             Self::WRONG_SUM => "the sum of a merge leaves -1 to +1, or is all 0",
             Self::STALE => "the script was written for another state of the pattern",
             Self::BYTES_LEFT => "there are bytes left over",
-            Self::SHORT_OUTPUT => "the output buffer is too short for the mesh",
+            Self::SHORT_OUTPUT => "the output buffer is too short",
             Self::WRONG_CHAIN => "a coefficient of the chain is out of limits, or not 0 at or past the count of its cells",
             Self::NOT_CARRIED => "no chain is carried through a kill or a merge",
+            Self::WRONG_OFF => "the text does not have the form of a plain OFF text, or a coordinate is out of range",
+            Self::NOT_PLAIN => "no OFF text has a block, a loose seam, two seams with the same ends, or a panel that is not one ring",
             _ => "no answer of this version has this number",
         }
     }

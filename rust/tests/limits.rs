@@ -73,3 +73,41 @@ fn of_coefficients() {
         assert_eq!(pattern.carry(&[0x52, 0], 2, &[sign * (CARRY_LIMIT + 1); SIDE], &mut out), wrong_chain);
     }
 }
+
+/// An OFF text of as many corners, panels and seams as there can be, each panel a ring around all corners, and every coordinate this one.
+fn full_text(coordinate: i32) -> String {
+    let mut text = format!("OFF\n{SIDE} {SIDE} {SIDE}\n") + &format!("{coordinate} {coordinate} {coordinate}\n").repeat(SIDE);
+    let ring: String = (0..SIDE).map(|corner| format!(" {corner}")).collect();
+    text += &format!("{SIDE}{ring}\n").repeat(SIDE);
+    text
+}
+
+#[test]
+fn of_an_off_text() {
+    let (mut pattern, mut coordinates) = (Box::<Pattern>::default(), [1; COORDINATES]);
+    let (text, mut out) = (full_text(-COORDINATE_LIMIT), [0; OFF_BYTES]);
+    assert_eq!(text.len(), OFF_BYTES);
+    assert_eq!(pattern.import_off(text.as_bytes(), &mut coordinates), Ok(()));
+    assert_eq!((pattern.counts, coordinates), ([96, 96, 96, 0], [-COORDINATE_LIMIT; COORDINATES]));
+    assert_eq!(pattern.export_off(&coordinates, &mut out[1..]), Err(refused(Refusal::SHORT_OUTPUT, None)));
+    assert_eq!(pattern.export_off(&coordinates, &mut out), Ok(OFF_BYTES));
+    assert!(out[..] == *text.as_bytes());
+}
+
+#[test]
+fn of_coordinates() {
+    let wrong_off = refused(Refusal::WRONG_OFF, None);
+    let (mut pattern, mut coordinates, mut out) = (Box::<Pattern>::default(), [0; COORDINATES], [0; OFF_BYTES]);
+    for sign in [1, -1] {
+        let beyond = full_text(sign * (COORDINATE_LIMIT + 1));
+        assert_eq!(pattern.import_off(beyond.as_bytes(), &mut coordinates), Err(wrong_off));
+        let within = full_text(sign * COORDINATE_LIMIT);
+        assert_eq!(pattern.import_off(within.as_bytes(), &mut coordinates), Ok(()));
+        for corner in 0..SIDE {
+            coordinates[3 * corner + 1] += sign;
+            assert_eq!(pattern.export_off(&coordinates, &mut out), Err(wrong_off));
+            coordinates[3 * corner + 1] -= sign;
+        }
+        assert_eq!(pattern.export_off(&coordinates, &mut out), Ok(within.len()));
+    }
+}

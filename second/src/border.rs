@@ -1,10 +1,12 @@
-//! From lent matrices to sparse cells and back.
+//! From lent matrices to sparse cells and back, and from lent coordinates to points.
 
 use crate::cells::{Cell, Pattern, LIMIT};
 use crate::good::is_good;
+use crate::off_text::Point;
 use crate::refusal::{demand, Answer, Refusal};
 
 const MATRIX_LENGTH: usize = LIMIT * LIMIT;
+const COORDINATES_LENGTH: usize = 3 * LIMIT;
 
 pub fn lengths_right(matrices: [&[i8]; 3]) -> bool {
     matrices.iter().all(|matrix| matrix.len() == MATRIX_LENGTH)
@@ -58,5 +60,23 @@ pub fn store(pattern: &Pattern, matrices: [&mut [i8]; 3]) {
                 }
             }
         }
+    }
+}
+
+pub fn coordinates_right(coordinates: &[i32]) -> bool {
+    coordinates.len() == COORDINATES_LENGTH
+}
+
+/// The points of so many corners; what stands behind them is not looked at.
+pub fn load_points(coordinates: &[i32], corners: usize) -> Vec<Point> {
+    let points = coordinates.chunks(3).filter_map(|point| point.try_into().ok());
+    points.take(corners).collect()
+}
+
+/// Sets every coordinate.
+pub fn store_points(points: &[Point], coordinates: &mut [i32]) {
+    coordinates.fill(0);
+    for (coordinate, &value) in coordinates.iter_mut().zip(points.iter().flatten()) {
+        *coordinate = value;
     }
 }

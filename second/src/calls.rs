@@ -2,10 +2,12 @@
 //! A refusal is the document's number, 0 meaning accepted. A place is that of a fault of
 //! the form in the bytes of the call, and `NO_PLACE` in every other answer.
 
-use crate::border::{lengths_right, load, store};
+use crate::border::{coordinates_right, lengths_right, load, load_points, store, store_points};
 use crate::cells::Pattern;
 use crate::chains::{self, Chain};
 use crate::fault::{Fault, NO_PLACE};
+use crate::off::{self, OffObstacle};
+use crate::off_text::{self, OffFault};
 use crate::refusal::{demand, number, placed, Answer, Judged, Refusal, Refused};
 use crate::{mesh, operators, script};
 
@@ -24,17 +26,41 @@ pub fn read_mesh(bytes: &[u8], m1: &mut [i8], m2: &mut [i8], m3: &mut [i8]) -> (
 
 /// Writes a pattern's mesh to the front of `out`; answers refusal, bytes written.
 pub fn write_mesh(counts: [u8; 4], m1: &[i8], m2: &[i8], m3: &[i8], out: &mut [u8]) -> (u8, usize) {
-    let bytes = match load(counts, [m1, m2, m3]) {
-        Ok(pattern) => mesh::bytes_of(&pattern),
-        Err(refusal) => return (refusal as u8, 0),
-    };
-    match out.get_mut(..bytes.len()) {
-        Some(front) => {
-            front.copy_from_slice(&bytes);
-            (0, bytes.len())
-        }
-        None => (Refusal::ShortOutput as u8, 0),
+    let bytes = load(counts, [m1, m2, m3]).map(|pattern| mesh::bytes_of(&pattern));
+    put(bytes, out)
+}
+
+/// Puts bytes at the front of `out`; answers refusal, bytes written.
+fn put(bytes: Answer<Vec<u8>>, out: &mut [u8]) -> (u8, usize) {
+    let written = bytes.and_then(|bytes| {
+        let front = out.get_mut(..bytes.len()).ok_or(Refusal::ShortOutput)?;
+        front.copy_from_slice(&bytes);
+        Ok(bytes.len())
+    });
+    (number(&written), written.unwrap_or(0))
+}
+
+/// Reads an OFF text; answers refusal, counts.
+pub fn import_off(text: &[u8], m1: &mut [i8], m2: &mut [i8], m3: &mut [i8], coordinates: &mut [i32]) -> (u8, [u8; 4]) {
+    if !lengths_right([m1, m2, m3]) || !coordinates_right(coordinates) {
+        return (Refusal::Length as u8, [0; 4]);
     }
+    let imported = off::import(text);
+    let refusal = number(&imported);
+    // The empty pattern and no points store nothing but zeros.
+    let (pattern, points) = imported.unwrap_or_default();
+    store(&pattern, [m1, m2, m3]);
+    store_points(&points, coordinates);
+    (refusal, pattern.counts())
+}
+
+/// Writes a pattern's OFF text to the front of `out`; answers refusal, bytes written.
+pub fn export_off(counts: [u8; 4], m1: &[i8], m2: &[i8], m3: &[i8], coordinates: &[i32], out: &mut [u8]) -> (u8, usize) {
+    // The list's length is part of refusal 1, so it is judged before goodness.
+    let text = demand(coordinates_right(coordinates), Refusal::Length)
+        .and_then(|()| load(counts, [m1, m2, m3]))
+        .and_then(|pattern| off::export(&pattern, &load_points(coordinates, pattern.count(0))));
+    put(text.map(String::into_bytes), out)
 }
 
 /// Whether the lent pattern is good: 0, 1 or 2.
@@ -130,4 +156,16 @@ pub fn operator_fault(bytes: &[u8]) -> Option<Fault> {
 /// The fault of the form of `bytes` as a script, however many they are.
 pub fn script_fault(bytes: &[u8]) -> Option<Fault> {
     script::decode(bytes).err()
+}
+
+/// The fault of the form for which a text is no OFF text.
+pub fn off_fault(text: &[u8]) -> Option<OffFault> {
+    off_text::read(text).err()
+}
+
+/// What stands against an OFF text of the lent pattern, wherever its corners are. A pattern
+/// that is refused by 1 or 2 is not asked.
+pub fn off_obstacle(counts: [u8; 4], m1: &[i8], m2: &[i8], m3: &[i8]) -> Option<OffObstacle> {
+    let pattern = load(counts, [m1, m2, m3]).ok()?;
+    off::rings_of(&pattern).err()
 }

@@ -23,6 +23,8 @@ pub enum Refusal {
     ShortOutput = 15,
     Coefficient = 16,
     NotCarried = 17,
+    OffForm = 18,
+    OffObstacle = 19,
 }
 
 pub type Answer<T> = Result<T, Refusal>;

@@ -2,7 +2,7 @@
 
 mod common;
 
-use common::{Lent, T, TETRAHEDRON};
+use common::{Lent, Placed, T, TETRAHEDRON};
 
 /// The tetrahedron with faults that a lent pattern can have, one at a time.
 fn not_good() -> Vec<Lent> {
@@ -36,6 +36,8 @@ fn all_refuse(lent: &Lent, refusal: u8) {
     assert_eq!(lent.check(), refusal);
     assert_eq!(lent.euler(), (refusal, 0));
     assert_eq!(lent.write(&mut bytes), (refusal, 0));
+    let placed = Placed { lent: lent.clone(), coordinates: vec![i32::MAX; 288] };
+    assert_eq!(placed.export(&mut bytes), (refusal, 0));
     assert_eq!(same.apply(&[0x10]), refusal);
     assert_eq!(same.run(&[4, 3, 3, 1, 0, 0, 0]), (refusal, 0));
     assert_eq!(lent.boundary(9, &[9; 96], &mut chain), refusal);

@@ -2,6 +2,8 @@
 pub mod chains;
 pub mod form;
 pub mod mesh;
+pub mod off_export;
+pub mod off_import;
 pub mod operators;
 pub mod pattern;
 pub mod script;

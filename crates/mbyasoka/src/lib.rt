@@ -4,6 +4,8 @@ ghost use Rattle.rules.specs.Complex.{countsOf, empty};
 ghost use Rattle.rules.specs.Calls.{readCall, writeCall, eulerCall, applyCall, runCall, given, boundaryCall, carryCall};
 ghost use Rattle.rules.specs.Lending.{atEntry, left};
 ghost use Rattle.good.specs.Tested.{tested};
+ghost use Rattle.off.specs.Calls.{importCall, exportCall};
+ghost use Rattle.off.specs.Wholes.{imported};
 ghost use Rattle.mbyasoka.specs.Places.{patternLent, countsLeft};
 use engine::apply_operator;
 use engine::boundary::boundary;
@@ -13,6 +15,8 @@ use engine::read_mesh;
 use engine::run_script;
 use engine::write_mesh;
 use good::refusal_of_pattern;
+use off::reader::import_off;
+use off::writer::export_off;
 use rules::counts::Counts;
 
 // Whether the pattern is good: 0, or the refusal 1 or 2.
@@ -162,5 +166,43 @@ pub extern "C" fn mbyasoka_carry(
     let c = Counts { n: *counts };
     let answer = carry(c, m1, m2, m3, s, d, chain, out);
     *place = answer.place;
+    answer.refusal
+}
+
+// Imports a plain OFF text: the refusal, the counts, and the coordinates of the corners in the list.
+#[no_mangle]
+pub extern "C" fn mbyasoka_import_off(
+    counts: &mut [u8; 4],
+    m1: &mut [i8],
+    m2: &mut [i8],
+    m3: &mut [i8],
+    coordinates: &mut [i32],
+    s: &[u8],
+) -> u8
+    ensures { λ r. ⌜ imported (record { counts = countsLeft counts; refusal = r }) m1 m2 m3 coordinates ≡ importCall (now (s .entry)) (atEntry (countsOf empty) m1 m2 m3) (now (coordinates .entry)) ⌝ }
+{
+    let answer = import_off(s, m1, m2, m3, coordinates);
+    let c = answer.counts;
+    let n = c.n;
+    *counts = n;
+    answer.refusal
+}
+
+// Exports the pattern as an OFF text: the refusal, and how many bytes were written.
+#[no_mangle]
+pub extern "C" fn mbyasoka_export_off(
+    counts: &[u8; 4],
+    m1: &[i8],
+    m2: &[i8],
+    m3: &[i8],
+    coordinates: &[i32],
+    out: &mut [u8],
+    written: &mut usize,
+) -> u8
+    ensures { λ r. ⌜ record { answer = record { written = now (written .exit); refusal = r }; out = now (out .exit) } ≡ exportCall (patternLent counts m1 m2 m3) (now (coordinates .entry)) (now (out .entry)) ⌝ }
+{
+    let c = Counts { n: *counts };
+    let answer = export_off(c, m1, m2, m3, coordinates, out);
+    *written = answer.written;
     answer.refusal
 }

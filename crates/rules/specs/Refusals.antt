@@ -55,6 +55,12 @@ wrongChain = 16  -- a coefficient is out of limits, or not 0 at or past the coun
 abbrev pub notCarried : ℕ
 notCarried = 17  -- kill or merge given to carrying
 
+abbrev pub wrongOff : ℕ
+wrongOff = 18  -- an OFF text is not of the plain form, or a coordinate is out of range
+
+abbrev pub notPlain : ℕ
+notPlain = 19  -- a pattern that no plain OFF text has: a block, a seam in no panel, two seams with the same two ends, or a panel that is not one ring
+
 -- The place of an answer that is no fault of the form: "the largest unsigned 32-bit number".
 abbrev pub noPlace : ℕ
 noPlace = 4_294_967_295

@@ -35,5 +35,9 @@ pub const WRONG_CHAIN: u8 = 16;
 
 pub const NOT_CARRIED: u8 = 17;
 
+pub const WRONG_OFF: u8 = 18;
+
+pub const NOT_PLAIN: u8 = 19;
+
 // The place of an answer that is no fault of the form.
 pub const NO_PLACE: u32 = 4_294_967_295;

@@ -116,6 +116,68 @@ impl Lent {
     }
 }
 
+/// A lent pattern and a lent list of coordinates.
+#[derive(Clone, Debug, PartialEq, Eq)]
+pub struct Placed {
+    pub lent: Lent,
+    pub coordinates: Vec<i32>,
+}
+
+impl Placed {
+    pub fn empty() -> Placed {
+        Placed { lent: Lent::empty(), coordinates: vec![0; 288] }
+    }
+
+    /// A pattern and a list with no byte that an accepted or refused import leaves.
+    pub fn soiled() -> Placed {
+        let mut placed = Placed { lent: Lent::empty(), coordinates: vec![7_777_777; 288] };
+        placed.lent.counts = [77; 4];
+        for matrix in [&mut placed.lent.m1, &mut placed.lent.m2, &mut placed.lent.m3] {
+            matrix.fill(77);
+        }
+        placed
+    }
+
+    /// Imports a text, which must be accepted.
+    pub fn imported(text: &str) -> Placed {
+        let mut placed = Placed::soiled();
+        assert_eq!(placed.import(text.as_bytes()), 0, "{text}");
+        placed
+    }
+
+    pub fn import(&mut self, text: &[u8]) -> u8 {
+        let Lent { counts, m1, m2, m3 } = &mut self.lent;
+        let (refusal, after) = second::import_off(text, m1, m2, m3, &mut self.coordinates);
+        *counts = after;
+        refusal
+    }
+
+    pub fn export(&self, out: &mut [u8]) -> (u8, usize) {
+        let Lent { counts, m1, m2, m3 } = &self.lent;
+        second::export_off(*counts, m1, m2, m3, &self.coordinates, out)
+    }
+
+    /// The pattern's OFF text.
+    pub fn text(&self) -> String {
+        let mut out = vec![0; 40_000];
+        let (refusal, written) = self.export(&mut out);
+        assert_eq!(refusal, 0);
+        out.truncate(written);
+        String::from_utf8(out).unwrap()
+    }
+}
+
+/// What an import answers; a refused one leaves zeros, and 18 has a kind of fault.
+pub fn import_refusal(text: &[u8]) -> u8 {
+    let mut placed = Placed::soiled();
+    let refusal = placed.import(text);
+    if refusal != 0 {
+        assert_eq!(placed, Placed::empty());
+    }
+    assert_eq!(refusal == 18, second::off_fault(text).is_some());
+    refusal
+}
+
 /// A fault of the form has a place, and nothing else has.
 fn assert_placed(refusal: u8, place: u32) {
     assert_eq!(matches!(refusal, 3 | 4 | 14), place != NO_PLACE, "{refusal} at {place}");

@@ -1,0 +1,3 @@
+pub mod SameWays
+pub mod SameEnds
+pub mod EndsFound

@@ -1,0 +1,4 @@
+pub mod Decimal
+pub mod Signs
+pub mod LineLengths
+pub mod FirstBytes

@@ -1,0 +1,2 @@
+pub mod NextSewing
+pub mod PanelsGoing

@@ -1,0 +1,2 @@
+pub mod TextParts
+pub mod RingsPut

@@ -1,0 +1,39 @@
+-- `off::places::put_rings` meets its contract: the lines of the panels below j are put.
+use Prim.Native.Nat.{_-_}
+use native.Mathlib.Omega.{arith}
+use borrow.Author.Needs.{needs}
+use Rattle.off.proofs.places.RingsPut.{RingsPut, rings-none, rings-all, ring-fits, rings-more}
+use Rattle.off.proofs.places.put_rings.Statement.{statement}
+use Rattle.off.proofs.places.put_rings.Tie as tie
+
+abbrev Inv-loop : tie.InvT-loop
+Inv-loop m2 seams panels tails heads out₀ at bytes₀ next₀ j₀ out bytes next j = RingsPut m2 seams panels tails heads j out₀ at next out bytes
+
+abbrev μ-loop : tie.MeasureT-loop
+μ-loop m2 seams panels tails heads out₀ at bytes₀ next₀ j₀ out bytes next j = panels - j
+
+-- where the function starts, and the turn that a ring is taken in
+abbrev start : tie.At-loop Inv-loop μ-loop → tie.Start Inv-loop μ-loop
+start loop = loop .before .before .before .before
+
+abbrev turn : tie.After-take-ring Inv-loop μ-loop → tie.At-loop Inv-loop μ-loop
+turn take = take .before .before .before
+
+put-ring-requires : tie.Need-put-ring-requires Inv-loop μ-loop
+put-ring-requires c κs =
+    let take = c .before .before .before in
+    let loop = turn take in
+    ring-fits (loop .loop .inv) (start loop .pre) (omega arith) (take .take-ring .ensures) (search needs)
+
+loop-again : tie.Need-loop-again Inv-loop μ-loop
+loop-again c =
+    let put = c .before .before in
+    let take = put .before .before .before .before in
+    let loop = turn take in
+    rings-more (loop .loop .inv) (start loop .pre) (omega arith) (take .take-ring .ensures) (search needs) (put .put-ring .ensures)
+
+pub put-rings-spec : {M : Type 1} → statement M
+put-rings-spec =
+    tie.close (tie.spec Inv-loop μ-loop (λ c. rings-none _ _ (search needs)) (λ c. search needs) (λ c κs. search needs) (λ c. search needs)
+    put-ring-requires (λ c. omega arith) (λ c. omega arith) loop-again (λ c. c .before .loop .inv .pieces .put .size)
+    (λ c. rings-all (c .before .loop .inv) (omega arith)))

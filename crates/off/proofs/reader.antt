@@ -1,0 +1,2 @@
+pub mod TextAnswers
+pub mod ImportAnswers

@@ -1,0 +1,62 @@
+-- How many pass a test, where those that pass are listed, each once.
+use mathlib.Core.Path.{_≡_, refl, sym, ap, _∙_}
+use mathlib.Core.Logic.{_≢_}
+use mathlib.Core.Bool.{Bool, true, false, not, _&&_}
+use Prim.Native.Nat.{ℕ, zero, suc, _<_, _≤_}
+use native.Mathlib.Omega.{arith}
+use borrow.Author.Tests.{ne-eqb, eqb-true, eqb-false, not-true, not-false}
+use lib.Dec.{eqb}
+use Rattle.maths.specs.Tests.{all, count}
+use Rattle.maths.proofs.Cases.{eq-or, bool-or, by-bool, eqb-same, and-left, and-right}
+use Rattle.maths.proofs.Tests.{all-not, all-false, count-same, count-zero, count-le}
+
+-- the test p, but not of t
+but : ℕ → (ℕ → Bool) → ℕ → Bool
+but t p i = p i && not (eqb i t)
+
+but-other : (t : ℕ) (p : ℕ → Bool) (i : ℕ) → i ≢ t → but t p i ≡ p i
+unfolding but
+but-other t p i h = rw (ne-eqb i t h) (by-bool (p i) (λ b. b && true ≡ b) (λ _. refl) (λ _. refl))
+
+but-same : (t : ℕ) (p : ℕ → Bool) → but t p t ≡ false
+unfolding but
+but-same t p = rw (eqb-same t) (by-bool (p t) (λ b. b && false ≡ false) (λ _. refl) (λ _. refl))
+
+but-says : (t : ℕ) (p : ℕ → Bool) (i : ℕ) → but t p i ≡ true → (p i ≡ true) × (i ≢ t)
+unfolding but
+but-says t p i e = (and-left (p i) _ e, eqb-false i t (not-true (eqb i t) (and-right (p i) _ e)))
+
+-- one fewer passes
+count-but : (m t : ℕ) (p : ℕ → Bool) → t < m → p t ≡ true → count m p ≡ suc (count m (but t p))
+unfolding count
+count-but zero t p h e = absurd (omega arith)
+count-but (suc m) t p h e = eq-or m t
+    (λ q. rw (q, e, but-same t p, count-same t (λ i l. but-other t p i (omega arith))) (omega arith))
+    (λ q. rw (but-other t p m q, count-but m t p (omega arith) e) (omega arith))
+
+module _ (m : ℕ) where
+  pub count-listed : (n : ℕ) (f : ℕ → ℕ) (p : ℕ → Bool) → ((l : ℕ) → l < n → f l < m) → ((k l : ℕ) → k < n → l < n → k ≢ l → f k ≢ f l) →
+      ((l : ℕ) → l < n → p (f l) ≡ true) → ((i : ℕ) → p i ≡ true → (l : ℕ) × (l < n) × (f l ≡ i)) → count m p ≡ n
+  count-listed zero f p low apart in-test listed = count-zero m (λ i h. bool-or (p i) (λ e. absurd (omega (arith, listed i e .1))) (λ e. e))
+  count-listed (suc n) f p low apart in-test listed =
+      count-but m (f n) p (low n (omega arith)) (in-test n (omega arith))
+      ∙ ap suc (count-listed n f (but (f n) p)
+      (λ l h. low l (omega arith))
+      (λ k l h i. apart k l (omega arith) (omega arith))
+      (λ l h. but-other (f n) p (f l) (apart l n (omega arith) (omega arith) (omega arith)) ∙ in-test l (omega arith))
+      (λ i e.
+      let passes = but-says (f n) p i e in
+      let s = listed i (passes .0) in
+      eq-or (s .0) n (λ q. absurd (passes .1 (sym (s .2) ∙ ap f q))) (λ q. (s .0, omega (arith, s .1), s .2))))
+
+  -- different numbers below m are at most m
+  pub few-apart : (n : ℕ) (f : ℕ → ℕ) → ((l : ℕ) → l < n → f l < m) → ((k l : ℕ) → k < n → l < n → k ≢ l → f k ≢ f l) → n ≤ m
+  few-apart n f low apart =
+      let other : ℕ → ℕ → Bool = λ i l. not (eqb (f l) i) in
+      let p : ℕ → Bool = λ i. not (all n (other i)) in
+      let is = count-listed n f p low apart
+      (λ l h. ap not (all-not n (other (f l)) l h (ap not (eqb-same (f l)))))
+      (λ i e.
+      let s = all-false n (other i) (not-true (all n (other i)) e) in
+      (s .0, s .1, eqb-true (f (s .0)) i (not-false (eqb (f (s .0)) i) (s .2)))) in
+      omega (arith, is, count-le m p)

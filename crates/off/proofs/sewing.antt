@@ -1,0 +1,12 @@
+pub mod SeamsFound
+pub mod SeamsMade
+pub mod RingSides
+pub mod SidesMet
+pub mod RingsSewn
+pub mod SewnStored
+pub mod SeamAdded
+pub mod SeamMet
+pub mod SidesJoined
+pub mod SideNumbers
+pub mod SidesPut
+pub mod RingStored

@@ -1,0 +1,5 @@
+pub mod NextCorners
+pub mod Steps
+pub mod Walked
+pub mod Closing
+pub mod Measuring

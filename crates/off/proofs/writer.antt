@@ -1,0 +1,4 @@
+pub mod Nearness
+pub mod Coordinates
+pub mod TextTaken
+pub mod ExportAnswers

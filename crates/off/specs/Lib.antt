@@ -1,0 +1,13 @@
+pub mod Words
+pub mod Plain
+pub mod Rings
+pub mod Sewing
+pub mod Exporting
+pub mod Calls
+pub mod Reading
+pub mod Taking
+pub mod RingBytes
+pub mod Lying
+pub mod Wholes
+pub mod Walking
+pub mod Writing
