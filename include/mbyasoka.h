@@ -1,6 +1,7 @@
 /* The engine for C: sewn-panel patterns that are processed or refused by a number. Link target/staticlib/libmbyasoka.a.
  *
- * docs/FORMATS.md says what a good pattern is, the bytes of a mesh, a script, an operator and an OFF text, and when each refusal is given.
+ * docs/FORMATS.md says what a good pattern is, the bytes of a mesh, a script and an operator, and when each refusal is given; docs/OFF.md says
+ * the same of OFF texts.
  * A pattern is four counts (corners, seams, panels, blocks) and three matrices of MBYASOKA_SIZE signed bytes. Matrix k has a row for
  * each cell of dimension k - 1 and a column for each cell of dimension k; row i of column j stands at MBYASOKA_SIDE * j + i.
  *

@@ -13,21 +13,21 @@ use Rattle.rules.specs.Printed.{text, line, digits}
 use Rattle.off.specs.Words.{farthest}
 use Rattle.off.specs.Plain.{Ring, Plain, plain}
 use Rattle.off.specs.Rings.{isRing}
-use Rattle.off.specs.Sewing.{Ends, endsOf, seamAmong}
+use Rattle.off.specs.Sewing.{SeamEnds, endsOf, seamAmong}
 
 -- f 0, .., f (n - 1)
-abbrev pub listed : {A : Type 0} → ℕ → (ℕ → A) → List A
-listed n f = join n (λ i. f i ∷ [])
+abbrev pub listOf : {A : Type 0} → ℕ → (ℕ → A) → List A
+listOf n f = join n (λ i. f i ∷ [])
 
 -- where the panel v comes from and goes to along seam j: "A plus is walked from tail to head, a minus from head to tail."
-abbrev pub comesFrom : Ends → Chain → ℕ → ℕ
+abbrev pub comesFrom : SeamEnds → Chain → ℕ → ℕ
 comesFrom E v j = cond (eqZ (v j) (pos 1)) (E .tail j) (E .head j)
 
-abbrev pub goesTo : Ends → Chain → ℕ → ℕ
+abbrev pub goesTo : SeamEnds → Chain → ℕ → ℕ
 goesTo E v j = cond (eqZ (v j) (pos 1)) (E .head j) (E .tail j)
 
 -- the panel leaves corner a by seam j
-unfoldable pub leavesBy : Ends → Chain → ℕ → ℕ → Bool
+unfoldable pub leavesBy : SeamEnds → Chain → ℕ → ℕ → Bool
 leavesBy E v a j = not (isZero (v j)) && eqb (comesFrom E v j) a
 
 -- no corner
@@ -35,7 +35,7 @@ abbrev pub nowhere : ℕ
 nowhere = 96
 
 -- where the panel goes from a along the last of the first n seams by which it leaves a
-unfoldable pub nextAmong : Ends → Chain → ℕ → ℕ → ℕ
+unfoldable pub nextAmong : SeamEnds → Chain → ℕ → ℕ → ℕ
 nextAmong E v zero a = nowhere
 nextAmong E v (suc j) a = cond (leavesBy E v a j) (goesTo E v j) (nextAmong E v j a)
 
@@ -58,7 +58,7 @@ stepsFrom next a (suc l) = next (stepsFrom next a l)
 
 -- "and goes the panel's way round": as many steps as it has seams
 unfoldable pub walked : (ℕ → ℕ) → ℕ → Ring
-walked next n = listed n (stepsFrom next (startOf next))
+walked next n = listOf n (stepsFrom next (startOf next))
 
 abbrev pub ringOf : Complex → Chain → Ring
 ringOf X v = walked (nextOf X v) (faceCount v)
@@ -75,7 +75,7 @@ oneRing X v = closesUp (nextOf X v) (faceCount v)
 unfoldable pub isSewn : Complex → ℕ → Bool
 isSewn X i = not (all 96 (λ j. isZero (X 2 .d i j)))
 
-unfoldable pub isAlone : Ends → ℕ → Bool
+unfoldable pub isAlone : SeamEnds → ℕ → Bool
 isAlone E j = isZero (seamAmong E j (E .tail j) (E .head j))
 
 -- "19 for a block, a seam in no panel, two seams with the same two ends or a panel that is not one ring"
@@ -92,7 +92,7 @@ coordinatesNear n c = all (3 * n) (λ i. leb (natAbs (getD c i (pos 0))) farthes
 
 -- what is exported
 unfoldable pub plainOf : Complex → List ℤ → Plain
-plainOf X c = plain (X 0 .n) (listed (3 * X 0 .n) (λ i. getD c i (pos 0))) (listed (X 2 .n) (λ j. ringOf X (λ i. X 2 .d i j)))
+plainOf X c = plain (X 0 .n) (listOf (3 * X 0 .n) (λ i. getD c i (pos 0))) (listOf (X 2 .n) (λ j. ringOf X (λ i. X 2 .d i j)))
 
 -- a number below 10,000,000 in decimal, and with its sign
 unfoldable pub number : ℕ → List ℕ

@@ -15,19 +15,19 @@ use Rattle.off.specs.Plain.{Ring, Plain}
 use Rattle.off.specs.Rings.{cornerAt, nextAt, cornersBelow, isRing}
 
 -- the tail and the head of each seam
-pub record Ends : Type 0 where
+pub record SeamEnds : Type 0 where
   pub tail : ℕ → ℕ
   pub head : ℕ → ℕ
 
-abbrev pub endsOf : Layer → Ends
+abbrev pub endsOf : Layer → SeamEnds
 endsOf A = record { tail = λ j. tailOf (λ i. A .d i j); head = λ j. headOf (λ i. A .d i j) }
 
 -- seam j goes from corner a to corner b
-unfoldable pub goesFrom : Ends → ℕ → ℕ → ℕ → Bool
+unfoldable pub goesFrom : SeamEnds → ℕ → ℕ → ℕ → Bool
 goesFrom E a b j = eqb (E .tail j) a && eqb (E .head j) b
 
 -- the seam between a and b among the first n, counted from 1: with minus where it goes from b to a, and 0 where there is none
-unfoldable pub seamAmong : Ends → ℕ → ℕ → ℕ → ℤ
+unfoldable pub seamAmong : SeamEnds → ℕ → ℕ → ℕ → ℤ
 seamAmong E zero a b = pos 0
 seamAmong E (suc j) a b = cond (goesFrom E a b j) (pos (suc j)) (cond (goesFrom E b a j) (negsuc j) (seamAmong E j a b))
 
@@ -61,16 +61,16 @@ unfoldable pub meetSide : Ring → Met → (Met → Sewn) → Sewn
 meetSide r x go = afterSewn (meet (cornerAt r (x .1)) (nextAt r (x .1)) (x .0)) refused λ Y. go (Y, x .1 + 1)
 
 -- "met against gives minus"
-abbrev pub signOf : ℤ → ℤ
-signOf (pos n) = pos 1
-signOf (negsuc n) = negsuc 0
+abbrev pub signum : ℤ → ℤ
+signum (pos n) = pos 1
+signum (negsuc n) = negsuc 0
 
 -- the seams along the ring r, each found by its two ends
 abbrev pub sides : (ℕ → ℕ → ℤ) → Ring → Faces
 sides seam r = record {
   n = length r;
   number = λ l. pred (natAbs (seam (cornerAt r l) (nextAt r l)));
-  sign = λ l. signOf (seam (cornerAt r l) (nextAt r l));
+  sign = λ l. signum (seam (cornerAt r l) (nextAt r l));
 }
 
 -- the panel of the ring r, all sides of which are met

@@ -3,7 +3,7 @@ use mathlib.Core.Path.{_≡_}
 use mathlib.Core.Bool.{Bool, true, cond, _&&_, _||_}
 use mathlib.Core.List.{List}
 use Prim.Native.Nat.{ℕ, _<_, _≤_}
-use lib.Dec.{eqb}
+use lib.Dec.{eqb, ltb}
 use lib.IntN.{ℤ}
 use lib.ListN.{length, getD, take}
 use Rattle.maths.specs.Tests.{all}
@@ -13,15 +13,15 @@ use Rattle.rules.specs.Mesh.{tailOf, headOf, faceCount}
 use Rattle.grid.specs.Grid.{Line, Columns}
 use Rattle.off.specs.declared.walks.Measured.{Measured}
 use Rattle.off.specs.Plain.{Ring}
-use Rattle.off.specs.Sewing.{Ends}
-use Rattle.off.specs.Exporting.{listed, nextAmong, stepsFrom, walked, closesUp, ringLine}
+use Rattle.off.specs.Sewing.{SeamEnds}
+use Rattle.off.specs.Exporting.{listOf, nextAmong, startOf, stepsFrom, walked, closesUp, ringLine}
 
 -- what stands at a place of a list of bytes
 abbrev pub byteOf : List ℕ → ℕ → ℕ
 byteOf l a = getD l a 0
 
 -- the ends of seams, as two lists
-abbrev pub endsBy : List ℕ → List ℕ → Ends
+abbrev pub endsBy : List ℕ → List ℕ → SeamEnds
 endsBy tails heads = record { tail = byteOf tails; head = byteOf heads }
 
 -- n seam columns, and room for their ends
@@ -80,13 +80,23 @@ pub record WalkRoom (next : List ℕ) (start n : ℕ) (bytes : List ℕ) : Type 
 
 pub record Walk (next : List ℕ) (start n end : ℕ) (bytes : List ℕ) : Type 0 where
   pub comes : end ≡ stepsFrom (byteOf next) start n
-  pub ring : take n bytes ≡ listed n (stepsFrom (byteOf next) start)
+  pub ring : take n bytes ≡ listOf n (stepsFrom (byteOf next) start)
 
 -- a panel, the ends of its seams, and room for its ring
 pub record PanelRoom (m2 : List ℤ) (j n : ℕ) (tails heads bytes : List ℕ) : Type 0 where
   pub line : Line m2 j
   pub ends : EndsLow n tails heads
   pub room : length bytes ≡ 96
+
+-- the same, and how many steps are gone
+pub record RoundRoom (m2 : List ℤ) (j n : ℕ) (tails heads : List ℕ) (count : ℕ) (bytes : List ℕ) : Type 0 where
+  pub panel : PanelRoom m2 j n tails heads bytes
+  pub few : count ≤ 96
+
+-- whether the walk of n steps leads back to where it starts; then its corners
+pub record WentRound (next : ℕ → ℕ) (n : ℕ) (r : Bool) (bytes : List ℕ) : Type 0 where
+  pub back : r ≡ ltb (startOf next) 96 && eqb (stepsFrom next (startOf next) n) (startOf next)
+  pub ring : r ≡ true → take n bytes ≡ walked next n
 
 -- the ring of the walk of n steps, if it closes up
 pub record RingWalked (next : ℕ → ℕ) (n r : ℕ) (bytes : List ℕ) : Type 0 where

@@ -43,13 +43,13 @@ pub record Digits : Type 0 where
   pub count : ℕ
   pub rest : Text
 
-abbrev pub digits : ℕ → ℕ → Text → Digits
-digits n k t = record { value = n; count = k; rest = t }
+abbrev pub theDigits : ℕ → ℕ → Text → Digits
+theDigits n k t = record { value = n; count = k; rest = t }
 
 -- the same, after k digits of the value n
 unfoldable pub digitsFrom : ℕ → ℕ → Text → Digits
-digitsFrom n k [] = digits n k []
-digitsFrom n k (b ∷ t) = cond (isDigit b) (digitsFrom (10 * n + (b - 0x30)) (suc k) t) (digits n k (b ∷ t))
+digitsFrom n k [] = theDigits n k []
+digitsFrom n k (b ∷ t) = cond (isDigit b) (digitsFrom (10 * n + (b - 0x30)) (suc k) t) (theDigits n k (b ∷ t))
 
 -- "numbers have one to seven digits"
 abbrev pub numberOf : Digits → Found ℕ

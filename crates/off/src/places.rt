@@ -5,10 +5,11 @@ ghost use Rattle.maths.specs.Buffers.{Put};
 ghost use Rattle.off.specs.Exporting.{number, signed, cornerLine, ringLine, headLines};
 ghost use Rattle.off.specs.Walking.{ringLines};
 ghost use Rattle.off.specs.Writing.{NumberFits, SignedFits, CornerFits, CornersFit, afterBlank, CornerNumberFits, spaced, SpacedFit, RingFits, RingsFit, HeadFits, textBy, TextFits};
-use crate::walks::take_ring;
+use crate::walks::go_round;
 use buffer::put;
 use buffer::put_all;
 use buffer::put_two;
+use grid::tests::column_count;
 use rules::counts::Counts;
 
 // n in decimal at a place, and the place after it.
@@ -68,8 +69,11 @@ fn put_corner_number(c: u8, out: &mut [u8], at: usize) -> usize
     requires { ⌜ CornerNumberFits c (now out) at ⌝ }
     ensures { λ next. ⌜ Put (now (out .entry)) at (afterBlank c) next (now (out .exit)) ⌝ }
 {
+    if c < 10 {
+        return put_two(out, at, 32, 48 + c);
+    }
     let next = put(out, at, 32);
-    put_number(out, next, c as u32)
+    put_two(out, next, 48 + c / 10, 48 + c % 10)
 }
 
 // The first n corners at a place, a blank before each, and the place after them.
@@ -110,7 +114,8 @@ fn put_rings(
     let mut bytes = [0u8; 96];
     let mut next = at;
     for j in 0..panels {
-        let n = take_ring(m2, j, seams, tails, heads, &mut bytes);
+        let n = column_count(m2, j);
+        go_round(m2, j, seams, tails, heads, n, &mut bytes);
         next = put_ring(&bytes, n, out, next);
     }
     next

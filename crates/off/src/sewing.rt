@@ -6,7 +6,7 @@ ghost use lib.IntN.{natAbs};
 ghost use lib.ListN.{take};
 ghost use Rattle.maths.specs.Tables.{entries};
 ghost use Rattle.grid.specs.Grid.{over, withEntry};
-ghost use Rattle.off.specs.Sewing.{meet, signOf, sewRing};
+ghost use Rattle.off.specs.Sewing.{meet, signum, sewRing};
 ghost use Rattle.off.specs.Lying.{drawn, Stands, TwoCorners, NewSeam, Joined, RingSeams, SideRoom, SidesRoom, withSides, RingDrawn, meetSides, sewnNew};
 use crate::answers::Imported;
 use crate::rings::is_ring;
@@ -82,7 +82,7 @@ fn meet_sides(c: Counts, bytes: &[u8], n: usize, m1: &mut [i8], m3: &mut [i8]) -
 // The seam that the number z names stands in column j, with z's sign.
 fn put_side(m2: &mut [i8], j: usize, z: i8)
     requires { ⌜ SideRoom (now m2) j z ⌝ }
-    ensures { λ _. ⌜ now (m2 .exit) ≡ over (withEntry (pred (natAbs z)) j (signOf z)) (now (m2 .entry)) ⌝ }
+    ensures { λ _. ⌜ now (m2 .exit) ≡ over (withEntry (pred (natAbs z)) j (signum z)) (now (m2 .entry)) ⌝ }
 {
     if 0 < z {
         set_entry(m2, (z - 1) as usize, j, 1);

@@ -7,7 +7,7 @@ ghost use Rattle.maths.specs.Tests.{eqZ, isZero};
 ghost use Rattle.maths.specs.Tables.{table, column};
 ghost use Rattle.rules.specs.Mesh.{faceCount};
 ghost use Rattle.off.specs.Exporting.{startOf};
-ghost use Rattle.off.specs.Walking.{byteOf, StepRoom, NextRoom, nextBy, WalkRoom, Walk, PanelRoom, RingWalked, PanelsIn, RingsMeasured};
+ghost use Rattle.off.specs.Walking.{byteOf, StepRoom, NextRoom, nextBy, WalkRoom, Walk, RoundRoom, WentRound, PanelRoom, RingWalked, PanelsIn, RingsMeasured};
 use crate::lengths::ring_length;
 use crate::rings::is_ring;
 use grid::byte::eq8;
@@ -73,27 +73,35 @@ fn walk(next: &[u8], start: usize, n: usize, bytes: &mut [u8]) -> usize
     corner
 }
 
-// The ring of panel j, and how many corners it has; 0 where the panel is not one ring.
-pub(crate) fn take_ring(
+// The corners on `count` steps round panel j from the lowest that it leaves; whether it leaves one, and they lead back.
+pub(crate) fn go_round(
     m2: &[i8],
     j: usize,
     n: usize,
     tails: &[u8],
     heads: &[u8],
+    count: usize,
     bytes: &mut [u8],
-) -> usize
-    requires { ⌜ PanelRoom (now m2) j n (now tails) (now heads) (now bytes) ⌝ }
-    ensures { λ r. ⌜ RingWalked (nextBy (now (m2 .entry)) j n (now (tails .entry)) (now (heads .entry))) (faceCount (column (now (m2 .entry)) j)) r (now (bytes .exit)) ⌝ }
+) -> bool
+    requires { ⌜ RoundRoom (now m2) j n (now tails) (now heads) count (now bytes) ⌝ }
+    ensures { λ r. ⌜ WentRound (nextBy (now (m2 .entry)) j n (now (tails .entry)) (now (heads .entry))) count r (now (bytes .exit)) ⌝ }
 {
     let mut next = [96u8; 97];
     fill_next(m2, j, n, tails, heads, &mut next);
     let start = lowest(&next);
     if start == SIDE {
-        return 0;
+        return false;
     }
+    walk(&next, start, count, bytes) == start
+}
+
+// The ring of panel j, and how many corners it has; 0 where the panel is not one ring.
+fn take_ring(m2: &[i8], j: usize, n: usize, tails: &[u8], heads: &[u8], bytes: &mut [u8]) -> usize
+    requires { ⌜ PanelRoom (now m2) j n (now tails) (now heads) (now bytes) ⌝ }
+    ensures { λ r. ⌜ RingWalked (nextBy (now (m2 .entry)) j n (now (tails .entry)) (now (heads .entry))) (faceCount (column (now (m2 .entry)) j)) r (now (bytes .exit)) ⌝ }
+{
     let count = column_count(m2, j);
-    let end = walk(&next, start, count, bytes);
-    if end != start {
+    if !go_round(m2, j, n, tails, heads, count, bytes) {
         return 0;
     }
     if is_ring(bytes, count) {

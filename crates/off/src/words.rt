@@ -2,7 +2,7 @@
 ghost use mathlib.Core.Path.{_≡_};
 ghost use Prim.Native.Nat.{_-_, _≤_};
 ghost use lib.ListN.{drop};
-ghost use Rattle.off.specs.Words.{isBlank, isDigit, wordEnds, digits, numberOf, numberHere, natural, coordinate, keyword};
+ghost use Rattle.off.specs.Words.{isBlank, isDigit, wordEnds, theDigits, numberOf, numberHere, natural, coordinate, keyword};
 ghost use Rattle.off.specs.Reading.{numberFound, coordinateFound, Skipped, IsLimited};
 
 // A number of at most seven digits, and the place after it; or none.
@@ -61,7 +61,7 @@ fn is_digit(b: u8) -> bool
 // The number of the digits from `at` up to `next`, whose value is n.
 fn number_of(s: &[u8], at: usize, next: usize, n: u32) -> Number
     requires { ⌜ at ≤ next ⌝ }
-    ensures { λ r. ⌜ numberFound (now (s .entry)) r ≡ numberOf (digits n (next - at) (drop next (now (s .entry)))) ⌝ }
+    ensures { λ r. ⌜ numberFound (now (s .entry)) r ≡ numberOf (theDigits n (next - at) (drop next (now (s .entry)))) ⌝ }
 {
     if next == at {
         return Number::None;

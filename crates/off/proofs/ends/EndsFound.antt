@@ -1,17 +1,18 @@
 -- The ends of the first seam columns, filled in one after the other.
-use mathlib.Core.Path.{_≡_, _∙_}
-use mathlib.Core.Bool.{Bool}
+use mathlib.Core.Path.{_≡_, refl, _∙_}
+use mathlib.Core.Bool.{Bool, cond}
 use mathlib.Core.List.{List}
-use Prim.Native.Nat.{ℕ, _+_, _<_, _≤_}
+use Prim.Native.Nat.{ℕ, suc, _+_, _<_, _≤_}
 use native.Mathlib.Omega.{arith}
 use lib.IntN.{ℤ}
 use lib.ListN.{length, set, length-set}
 use lib.Seq.{getD-set-same, getD-set-other}
-use Rattle.maths.specs.Tests.{last}
+use Rattle.maths.specs.Tests.{eqZ, last}
 use Rattle.maths.specs.Tables.{column}
-use Rattle.maths.proofs.Cases.{eq-or}
+use Rattle.maths.proofs.Cases.{eq-or, by-bool}
 use Rattle.maths.proofs.Tests.{last-le}
-use Rattle.rules.specs.Mesh.{tailOf, headOf}
+use Rattle.rules.specs.Complex.{Chain}
+use Rattle.rules.specs.Mesh.{faceWith, tailOf, headOf}
 use Rattle.off.specs.Walking.{byteOf, EndsRoom, EndsTaken}
 
 -- what is told of the first j places is told of one more
@@ -22,9 +23,17 @@ place-more f l j v h e so k below =
     (λ q. rw q (getD-set-same l j v 0 h ∙ e))
     (λ q. getD-set-other l j k v 0 q ∙ so k (omega arith))
 
+-- the last number up to n that passes p, or 0 where none does
+last-below : (n : ℕ) (p : ℕ → Bool) → last (suc n) p ≤ n
+unfolding last
+last-below n p = by-bool (p n) (λ t. cond t n (last n p) ≤ n) (λ _. omega arith) (λ _. last-le n p)
+
 -- an end that was found is a corner
-pub end-low : (p : ℕ → Bool) {a : ℕ} → a ≡ last 96 p → a ≤ 96
-end-low p e = omega (arith, last-le 96 p)
+pub end-low : (p : ℕ → Bool) {a : ℕ} → a ≡ last 96 p → a < 96
+end-low p e = omega (arith, last-below 95 p)
+
+pub face-low : (z : ℤ) (v : Chain) → faceWith z v < 96
+face-low z v = end-low (λ i. eqZ (v i) z) refl
 
 -- of n seams, the ends of the first j
 pub record EndsSoFar (m1 : List ℤ) (n j : ℕ) (tails heads : List ℕ) : Type 0 where

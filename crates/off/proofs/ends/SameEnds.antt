@@ -7,15 +7,15 @@ use borrow.Author.Tests.{ne-eqb}
 use lib.IntN.{pos, negsuc}
 use Rattle.maths.specs.Tests.{eqZ, isZero, all}
 use Rattle.maths.proofs.Cases.{by-bool}
-use Rattle.off.specs.Sewing.{Ends, goesFrom, seamAmong}
+use Rattle.off.specs.Sewing.{SeamEnds, goesFrom, seamAmong}
 use Rattle.off.specs.Exporting.{isAlone}
 use Rattle.off.specs.Walking.{sameEnds}
 
 -- seam i has other ends than a and b
-abbrev pub differs : Ends → ℕ → ℕ → ℕ → Bool
+abbrev pub differs : SeamEnds → ℕ → ℕ → ℕ → Bool
 differs E a b i = not (sameEnds (E .tail i) (E .head i) a b)
 
-pub none-between : (E : Ends) (n a b : ℕ) → isZero (seamAmong E n a b) ≡ all n (differs E a b)
+pub none-between : (E : SeamEnds) (n a b : ℕ) → isZero (seamAmong E n a b) ≡ all n (differs E a b)
 unfolding seamAmong goesFrom sameEnds isZero eqZ all
 none-between E zero a b = refl
 none-between E (suc j) a b =
@@ -27,6 +27,6 @@ none-between E (suc j) a b =
     (λ _. sym (and-false fewer))
     (λ _. none-between E j a b ∙ sym (and-true fewer))
 
-pub alone-is : (E : Ends) (j : ℕ) → isAlone E j ≡ all j (differs E (E .tail j) (E .head j))
+pub alone-is : (E : SeamEnds) (j : ℕ) → isAlone E j ≡ all j (differs E (E .tail j) (E .head j))
 unfolding isAlone
 alone-is E j = none-between E j (E .tail j) (E .head j)

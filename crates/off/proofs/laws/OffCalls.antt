@@ -51,7 +51,7 @@ pub sew-numbered : (P : Plain) (r : ℕ) → SaidPlain P → sew P ≡ refused r
 unfolding sew
 sew-numbered P r S e = rw e at (panels-numbered (P .rings) (corners-good (P .corners) (S .few)) (omega (arith, S .few-rings)))
 
--- what is left by a refusal but 1
+-- what a refusal other than 1 leaves
 abbrev pub nothingLeft : ℕ → ImportLeft
 nothingLeft r = importLeft r (stored empty) (table 288 (λ i. pos 0))
 
@@ -86,7 +86,7 @@ empty-good = rw (← fun-ext same) (corners-good 0 (omega arith))
 abbrev pub patternLeft : ImportLeft → Pattern
 patternLeft l = pattern (l .answer .counts) (l .m1) (l .m2) (l .m3)
 
--- "import leaves a good pattern or refuses", and a refused one the empty pattern
+-- "import leaves a good pattern or refuses", and a refused import leaves the empty pattern
 pub import-good : (s : List ℕ) (p : Pattern) (c : List ℤ) → sized p && sizedList c ≡ true → Held (patternLeft (importCall s p c))
 import-good s p c t =
     let none-held : Held (stored empty) = stored-held empty-good in

@@ -1,4 +1,4 @@
--- Texts, and the texts that what they mean exports, computed by the definitions.
+-- Texts, and what is exported of what they mean, computed by the definitions.
 use mathlib.Core.Path.{_≡_, refl}
 use mathlib.Core.List.{List, [], _∷_, map}
 use Prim.Native.Nat.{ℕ}
@@ -26,7 +26,7 @@ abbrev offTable : List (String × String)
 offTable =
     -- a triangle, its ring from another corner
     ("OFF 3 1 0  0 0 0  120 0 -4  60 104 0  3 1 2 0", "OFF\n3 1 3\n0 0 0\n120 0 -4\n60 104 0\n3 0 1 2\n")
-    -- two triangles with a seam between them, met against
+    -- two triangles that share a seam, which the second goes against
     ∷ ("OFF 4 2 0  0 0 0 1 0 0 1 1 0 0 1 0  3 0 1 2  3 3 0 2", "OFF\n4 2 5\n0 0 0\n1 0 0\n1 1 0\n0 1 0\n3 0 1 2\n3 0 2 3\n")
     -- no corner; a corner in no panel, with -0 and leading zeros
     ∷ ("OFF 0 0 0", "OFF\n0 0 0\n")
@@ -34,7 +34,7 @@ offTable =
     -- 18: another keyword, text that ends or is left over, a word that is no number, eight digits, a coordinate out of range, 97 corners
     ∷ ("COFF 0 0 0", "18") ∷ ("OFF 0 0", "18") ∷ ("OFF 0 0 0 0", "18") ∷ ("OFF 0 0 x", "18") ∷ ("OFF 00000000 0 0", "18")
     ∷ ("OFF 1 0 0 0 0 1048577", "18") ∷ ("OFF 97 0 0", "18")
-    -- 5 before 7 in one ring, and 7 for two corners, or one of three twice
+    -- 5 before 7 in one ring, and 7 for a ring of two corners, or of three with one twice
     ∷ ("OFF 1 1 0 0 0 0 2 0 1", "5") ∷ ("OFF 2 1 0 0 0 0 0 0 0 2 0 1", "7") ∷ ("OFF 2 1 0 0 0 0 0 0 0 3 0 1 0", "7")
     ∷ []
 

@@ -17,7 +17,7 @@ use Rattle.off.specs.Words.{found, farthest}
 use Rattle.off.specs.Plain.{Plain, plain, readOff}
 use Rattle.off.specs.Rings.{SameRing}
 use Rattle.off.specs.Sewing.{sewn, sew}
-use Rattle.off.specs.Exporting.{listed, ringOf, isPlain, coordinatesNear, plainOf, cornerLine, ringLine, writeOff, exportText}
+use Rattle.off.specs.Exporting.{listOf, ringOf, isPlain, coordinatesNear, plainOf, cornerLine, ringLine, writeOff, exportText}
 use Rattle.off.specs.Calls.{laid}
 use Rattle.off.proofs.sewing.RingSides.{corner-below, ring-short}
 use Rattle.off.proofs.rounds.Listed.{listed-length, listed-at, same-list}
@@ -99,7 +99,7 @@ text-again P X S e =
     let c = P .coordinates in
     let n : X 0 .n ≡ P .corners = W .corners in
     let few = S .few in
-    let long : length (listed (3 * X 0 .n) (λ i. getD (laid c) i (pos 0))) ≡ 3 * X 0 .n = listed-length (3 * X 0 .n) (λ i. getD (laid c) i (pos 0)) in
+    let long : length (listOf (3 * X 0 .n) (λ i. getD (laid c) i (pos 0))) ≡ 3 * X 0 .n = listed-length (3 * X 0 .n) (λ i. getD (laid c) i (pos 0)) in
     record {
       good = W .good;
       near = all-of (3 * X 0 .n) (λ i h. le-leb (natAbs (getD (laid c) i (pos 0))) farthest (rw (laid-at c i (omega arith)) (S .near i (omega arith))));

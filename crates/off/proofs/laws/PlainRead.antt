@@ -14,7 +14,7 @@ use Rattle.maths.proofs.Sums.{join-zero, join-suc, join-same}
 use Rattle.rules.specs.Printed.{line}
 use Rattle.off.specs.Words.{Text, Found, none, found, afterFound, isBlank, wordEnds, natural, farthest, coordinate, keywordHere, keyword, skipped}
 use Rattle.off.specs.Plain.{Ring, Plain, oneMore, allFound, several, ring, cellCount, isOver, readOff}
-use Rattle.off.specs.Exporting.{listed, number, signed, cornerLine, ringLine, headLines, writeOff}
+use Rattle.off.specs.Exporting.{listOf, number, signed, cornerLine, ringLine, headLines, writeOff}
 use Rattle.off.proofs.rounds.Listed.{listed-length, listed-at, same-list}
 use Rattle.off.proofs.laws.WordsRead.{natural-read, coordinate-read}
 
@@ -44,8 +44,8 @@ module _ {A : Type 0} (one : Text → Found A) where
   unfolding several oneMore
   several-more n t u w l y e f = repeat-last (oneMore one) allFound n ([], t) ∙ found-on n ([], t) (λ y. oneMore one y allFound) l u e ∙ rw f
 
--- a list is that of its elements
-relisted : {A : Type 0} (l : List A) (d : A) {n : ℕ} → length l ≡ n → listed n (λ i. getD l i d) ≡ l
+-- a list is the list of its elements
+relisted : {A : Type 0} (l : List A) (d : A) {n : ℕ} → length l ≡ n → listOf n (λ i. getD l i d) ≡ l
 relisted l d {n} e = same-list _ l d (listed-length n (λ i. getD l i d) ∙ sym e)
     (λ i h. listed-at n (λ i. getD l i d) i d (omega (arith, listed-length n (λ i. getD l i d))))
 
@@ -85,7 +85,7 @@ corner-then x y z u = simp append-assoc
 
 -- the corners of a text
 corners-read : (n : ℕ) (c : List ℤ) (u : Text) → ((i : ℕ) → i < 3 * n → natAbs (getD c i (pos 0)) ≤ farthest) → wordEnds u ≡ true →
-    several coordinate (3 * n) (join n (λ i. 0x0a ∷ cornerWords c i) ++ u) ≡ found (listed (3 * n) (λ i. getD c i (pos 0))) u
+    several coordinate (3 * n) (join n (λ i. 0x0a ∷ cornerWords c i) ++ u) ≡ found (listOf (3 * n) (λ i. getD c i (pos 0))) u
 unfolding cornerWords
 corners-read zero c u near e = rw (join-zero (λ i. 0x0a ∷ cornerWords c i), join-zero (λ i. getD c i (pos 0) ∷ [])) (several-none coordinate u)
 corners-read (suc n) c u near e =
@@ -118,7 +118,7 @@ corners-read (suc n) c u near e =
 
 -- the corners of a ring
 ring-corners : (n : ℕ) (r : Ring) (u : Text) → ((l : ℕ) → l < n → getD r l 0 < 10_000_000) → wordEnds u ≡ true →
-    several natural n (join n (λ l. 0x20 ∷ number (getD r l 0)) ++ u) ≡ found (listed n (λ l. getD r l 0)) u
+    several natural n (join n (λ l. 0x20 ∷ number (getD r l 0)) ++ u) ≡ found (listOf n (λ l. getD r l 0)) u
 ring-corners zero r u low e = rw (join-zero (λ l. 0x20 ∷ number (getD r l 0)), join-zero (λ l. getD r l 0 ∷ [])) (several-none natural u)
 ring-corners (suc n) r u low e =
     let c = getD r n 0 in
@@ -146,7 +146,7 @@ ring-read r u S e =
     (ring-corners (length r) r u (S .low) e ∙ ap (λ r. found r u) (relisted r 0 refl))
 
 rings-read : (n : ℕ) (f : ℕ → Ring) (u : Text) → ((k : ℕ) → k < n → Short (f k)) → wordEnds u ≡ true →
-    several ring n (join n (λ k. 0x0a ∷ ringWords (f k)) ++ u) ≡ found (listed n f) u
+    several ring n (join n (λ k. 0x0a ∷ ringWords (f k)) ++ u) ≡ found (listOf n f) u
 rings-read zero f u S e = rw (join-zero (λ k. 0x0a ∷ ringWords (f k)), join-zero (λ k. f k ∷ [])) (several-none ring u)
 rings-read (suc n) f u S e =
     let here : Text = 0x0a ∷ (ringWords (f n) ++ u) in
@@ -225,8 +225,8 @@ module _ (seams : ℕ) (P : Plain) where
   read-written S =
       let rings-end = pieces-end (length (P .rings)) (λ k. ringWords (getD (P .rings) k [])) line (line-ends-word []) in
       let body-ends = pieces-end (P .corners) (cornerWords (P .coordinates)) panels rings-end in
-      let coordinates : listed (3 * P .corners) (λ i. getD (P .coordinates) i (pos 0)) ≡ P .coordinates = relisted (P .coordinates) (pos 0) (S .long) in
-      let rings : listed (length (P .rings)) (λ k. getD (P .rings) k []) ≡ P .rings = relisted (P .rings) [] refl in
+      let coordinates : listOf (3 * P .corners) (λ i. getD (P .coordinates) i (pos 0)) ≡ P .coordinates = relisted (P .coordinates) (pos 0) (S .long) in
+      let rings : listOf (length (P .rings)) (λ k. getD (P .rings) k []) ≡ P .rings = relisted (P .rings) [] refl in
       rw (
         text-is,
         keyword-read,

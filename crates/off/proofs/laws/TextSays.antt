@@ -1,19 +1,20 @@
 -- What a text that is a plain OFF text says: counts, how many coordinates, and how far they are from 0.
-use mathlib.Core.Path.{_≡_, refl, ap}
+use mathlib.Core.Path.{_≡_, refl, sym, ap, _∙_}
 use mathlib.Core.Bool.{Bool, true, false, cond}
 use mathlib.Core.List.{List, [], _∷_, _++_}
-use Prim.Native.Nat.{ℕ, zero, suc, _+_, _-_, _*_, _<_, _≤_}
+use Prim.Native.Nat.{ℕ, zero, suc, _+_, _*_, _<_, _≤_}
 use native.Mathlib.Omega.{arith}
 use borrow.Author.Tests.{leb-true}
 use lib.Dec.{eqb, leb}
 use lib.IntN.{ℤ, pos, natAbs}
-use lib.ListN.{length, getD, drop, length-append}
+use lib.ListN.{length, getD, drop, length-append, List·getD-append}
+use lib.Seq.{getD-at}
 use Rattle.maths.specs.Repeat.{repeat}
 use Rattle.maths.proofs.Cases.{eq-or, bool-or}
 use Rattle.maths.proofs.Sizes.{neg-size}
 use Rattle.off.specs.Words.{Text, Found, none, found, afterFound, skipped, numberHere, natural, farthest, limited, minus, coordinateHere, coordinate, keyword}
-use Rattle.off.specs.Plain.{Plain, plain, oneMore, allFound, several, ring, cellCount, isOver, readOff}
-use Rattle.off.proofs.rounds.Listed.{append-left, append-right}
+use Rattle.off.specs.Plain.{Ring, Plain, plain, oneMore, allFound, several, ring, cellCount, isOver, readOff}
+use Rattle.off.proofs.lines.Several.{not-found}
 
 -- where something follows, something was found
 pub record Both {A B : Type 0} (w : Found A) (go : A → Text → Found B) (y : B) (u : Text) : Type 0 where
@@ -21,9 +22,6 @@ pub record Both {A B : Type 0} (w : Found A) (go : A → Text → Found B) (y : 
   pub rest : Text
   pub is : w ≡ found one rest
   pub then : go one rest ≡ found y u
-
-not-found : {A : Type 0} {x : A} {t : Text} {B : Type 0} → none ≡ found x t → B
-not-found e = let z : _≡_ {A = ℕ} 0 1 = cc in absurd (omega arith)
 
 pub after-both : {A B : Type 0} (w : Found A) {go : A → Text → Found B} {y : B} {u : Text} → afterFound w none go ≡ found y u → Both w go y u
 after-both none e = not-found e
@@ -44,8 +42,8 @@ module _ {A : Type 0} (one : Text → Found A) (Q : A → Type 0) (says : (t : T
   said-more n l y S q = record {
     long = rw length-append (omega (arith, S .long));
     each = λ i h. eq-or i n
-        (λ e. let z : i - length l ≡ 0 = omega (arith, S .long) in rw (append-right l (y ∷ []) i d (omega (arith, S .long)), z) q)
-        (λ e. rw (append-left l (y ∷ []) i d (omega (arith, S .long))) (S .each i (omega arith)));
+        (λ e. rw (getD-at l y [] d i (S .long ∙ sym e)) q)
+        (λ e. rw (List·getD-append l (y ∷ []) d i (omega (arith, S .long))) (S .each i (omega arith)));
   }
 
   said-from : (n m : ℕ) (l : List A) (t : Text) {r : List A} {u : Text} → Said m l → repeat (oneMore one) allFound n (l, t) ≡ found r u → Said (m + n) r
@@ -93,22 +91,23 @@ pub record SaidPlain (P : Plain) : Type 0 where
   pub long : length (P .coordinates) ≡ 3 * P .corners
   pub near : (i : ℕ) → i < 3 * P .corners → natAbs (getD (P .coordinates) i (pos 0)) ≤ farthest
 
+-- n corners and m rings were found, and nothing is left
+whole-says : (n m : ℕ) (c : List ℤ) (r : List Ring) (t v w : Text) {P : Plain} {u : Text} → n ≤ 96 → m ≤ 96 →
+    several coordinate (3 * n) t ≡ found c v → several ring m v ≡ found r w → cond (isOver w) (found (plain n c r) []) none ≡ found P u → SaidPlain P
+whole-says n m c r t v w {P} few few-rings corners rings e =
+    let T = tested (isOver w) e in
+    let q : plain n c r ≡ P = cc in
+    let S = several-says coordinate (λ z. natAbs z ≤ farthest) coordinate-says (pos 0) (3 * n) t corners in
+    let R = several-says ring (λ r. Unit {0}) (λ t y u e. tt) [] m v rings in
+    rw (← q) (record { few = few; few-rings = omega (arith, R .long); long = S .long; near = S .each })
+
 pub text-says : (s : Text) {P : Plain} {u : Text} → readOff s ≡ found P u → SaidPlain P
 unfolding readOff
-text-says s {P} e =
+text-says s e =
     let a = after-both (keyword s) e in
     let b = after-both (cellCount (a .rest)) (a .then) in
     let c = after-both (cellCount (b .rest)) (b .then) in
     let d = after-both (natural (c .rest)) (c .then) in
     let f = after-both (several coordinate (3 * b .one) (d .rest)) (d .then) in
     let g = after-both (several ring (c .one) (f .rest)) (f .then) in
-    let T = tested (isOver (g .rest)) (g .then) in
-    let q : plain (b .one) (f .one) (g .one) ≡ P = cc in
-    let S = several-says coordinate (λ z. natAbs z ≤ farthest) coordinate-says (pos 0) (3 * b .one) (d .rest) (f .is) in
-    let R = several-says ring (λ r. Unit {0}) (λ t y u e. tt) [] (c .one) (f .rest) (g .is) in
-    rw (← q) (record {
-      few = count-says (a .rest) (b .is);
-      few-rings = omega (arith, R .long, count-says (b .rest) (c .is));
-      long = S .long;
-      near = S .each;
-    })
+    whole-says (b .one) (c .one) (f .one) (g .one) (d .rest) (f .rest) (g .rest) (count-says (a .rest) (b .is)) (count-says (b .rest) (c .is)) (f .is) (g .is) (g .then)

@@ -11,15 +11,15 @@ use lib.IntN.{ℤ, pos, negsuc, natAbs}
 use lib.ListN.{length, getD, length-append}
 use Rattle.maths.proofs.Cases.{lt-or, bool-or, no-eq, and-left, and-right, and-both}
 use Rattle.rules.specs.Printed.{digits as decimals}
-use Rattle.off.specs.Words.{Text, found, isBlank, skipped, wordEnds, isDigit, digits, digitsFrom, numberHere, natural, farthest, coordinateHere, coordinate}
+use Rattle.off.specs.Words.{Text, found, isBlank, skipped, wordEnds, isDigit, theDigits, digitsFrom, numberHere, natural, farthest, coordinateHere, coordinate}
 use Rattle.off.specs.Exporting.{number, signed}
 
--- a digit's byte
+-- the byte of a digit
 digit-byte : (d : ℕ) → d < 10 → isDigit (48 + d) ≡ true
 unfolding isDigit
 digit-byte d h = and-both (le-leb 0x30 (48 + d) (omega arith)) (le-leb (48 + d) 0x39 (omega arith))
 
--- is no blank and no minus
+-- a byte of a digit is no blank
 digit-low : (b : ℕ) → isDigit b ≡ true → (48 ≤ b) × (b ≤ 57)
 unfolding isDigit
 digit-low b e = (leb-true 0x30 b (and-left _ _ e), leb-true b 0x39 (and-right (leb 0x30 b) _ e))
@@ -45,7 +45,7 @@ unfolding skipped isBlank
 minus-skipped b t e = rw e
 
 -- where a word ends, no digit follows
-word-stops : (n k : ℕ) (t : Text) → wordEnds t ≡ true → digitsFrom n k t ≡ digits n k t
+word-stops : (n k : ℕ) (t : Text) → wordEnds t ≡ true → digitsFrom n k t ≡ theDigits n k t
 unfolding digitsFrom wordEnds
 word-stops n k [] e = refl
 word-stops n k (b ∷ t) e = bool-or (isDigit b) (λ d. no-eq (sym (digit-no-blank b d) ∙ e)) (λ d. rw d)

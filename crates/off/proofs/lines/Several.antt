@@ -23,6 +23,9 @@ use Rattle.off.specs.Plain.{Ring, oneMore, allFound, several}
 use Rattle.off.specs.Rings.{cornerAt, cornersBelow}
 use Rattle.off.specs.Calls.{laid}
 
+pub not-found : {A B : Type 0} {x : A} {t : Text} → none ≡ found x t → B
+not-found e = let z : _≡_ {A = ℕ} 0 1 = cc in absurd (omega arith)
+
 -- those i of n things were read from the text t on, and the text u is left
 pub record Sofar {A : Type 0} (one : Text → Found A) (n : ℕ) (t : Text) (i : ℕ) (those : List A) (u : Text) : Type 0 where
   pub long : length those ≡ i

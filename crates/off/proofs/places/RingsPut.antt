@@ -1,20 +1,18 @@
 -- The lines of the panels, put one after the other: the ring of each is taken, fits, and is put.
-use mathlib.Core.Path.{_≡_, sym, _∙_}
-use mathlib.Core.Logic.{_≢_}
+use mathlib.Core.Path.{_≡_}
+use mathlib.Core.Bool.{Bool, true}
 use mathlib.Core.List.{List}
 use Prim.Native.Nat.{ℕ, _+_, _<_, _≤_}
 use lib.IntN.{ℤ}
 use lib.ListN.{length, take}
 use Rattle.maths.specs.Tables.{column}
 use Rattle.maths.specs.Buffers.{Put}
-use Rattle.maths.proofs.Cases.{no-eq}
 use Rattle.maths.proofs.Buffers.{Pieces, pieces-none, pieces-fit, pieces-more, pieces-all}
 use Rattle.rules.specs.Mesh.{faceCount}
 use Rattle.off.specs.Exporting.{ringLine}
-use Rattle.off.specs.Walking.{endsBy, nextBy, RingWalked, panelRing, ringLines}
+use Rattle.off.specs.Walking.{endsBy, nextBy, WentRound, panelRing, ringLines}
 use Rattle.off.specs.Writing.{RingFits, RingsFit}
-use Rattle.off.proofs.walks.Walked.{steps-of}
-use Rattle.off.proofs.walks.Closing.{not-closed, ring-taken, taken-corners}
+use Rattle.off.proofs.walks.Walked.{steps-of, went-round, corners-low}
 use Rattle.off.proofs.walks.Measuring.{few-seams}
 
 -- of the panels, the lines of those before j are put, and there is room for a ring
@@ -33,21 +31,21 @@ module _ {m2 : List ℤ} {seams panels : ℕ} {tails heads : List ℕ} where
     unfolding ringLines
     rings-all h = pieces-all (s .pieces) h
 
-    -- the ring of panel j was taken
-    module _ (R : RingsFit m2 seams panels tails heads before at) (h : j < panels) {r : ℕ} {ring : List ℕ}
-        (T : RingWalked (nextBy m2 j seams tails heads) (faceCount (column m2 j)) r ring) where
-      there : r ≢ 0
-      there z = no-eq (sym (not-closed T z) ∙ R .close j h)
+    -- it was gone round panel j
+    module _ (R : RingsFit m2 seams panels tails heads before at) (h : j < panels) {r : Bool} {ring : List ℕ}
+        (W : WentRound (nextBy m2 j seams tails heads) (faceCount (column m2 j)) r ring) where
+      there : r ≡ true
+      there = went-round W (R .close j h)
 
-      pub ring-fits : length ring ≡ 96 → RingFits ring r after next
+      pub ring-fits : length ring ≡ 96 → RingFits ring (faceCount (column m2 j)) after next
       unfolding ringLines
       ring-fits e =
           let ends = R .there .ends in
           record {
-            corners = taken-corners T (steps-of (endsBy tails heads) (column m2 j) seams (ends .tail) (ends .head)) there (few-seams m2 j) e;
-            room = rw (ring-taken T there) (pieces-fit (s .pieces) (R .room) h);
+            corners = corners-low W there (steps-of (endsBy tails heads) (column m2 j) seams (ends .tail) (ends .head)) (few-seams m2 j) e;
+            room = rw (W .ring there) (pieces-fit (s .pieces) (R .room) h);
           }
 
-      pub rings-more : {to : ℕ} {out : List ℕ} → length ring ≡ 96 → Put after next (ringLine (take r ring)) to out →
+      pub rings-more : {to : ℕ} {out : List ℕ} → length ring ≡ 96 → Put after next (ringLine (take (faceCount (column m2 j)) ring)) to out →
           RingsPut m2 seams panels tails heads (j + 1) before at to out ring
-      rings-more e p = record { room = e; pieces = pieces-more (s .pieces) h (rw (ring-taken T there) at p) }
+      rings-more e p = record { room = e; pieces = pieces-more (s .pieces) h (rw (W .ring there) at p) }

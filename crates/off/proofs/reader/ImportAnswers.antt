@@ -22,7 +22,7 @@ use Rattle.off.specs.Calls.{sizedList, laid, importLeft, importCall}
 use Rattle.off.specs.Lying.{noBlock}
 use Rattle.off.specs.Wholes.{panelsThen, bodyThen, Blanks, TextTaken}
 
--- what follows the same, follows alike
+-- what goes on alike comes to the same
 after-same : {A B : Type 0} (w : Found A) {go go' : A → Text → Found B} → ((x : A) (t : Text) → go x t ≡ go' x t) → afterFound w none go ≡ afterFound w none go'
 after-same none h = refl
 after-same (found x t) h = h x t

@@ -3,7 +3,6 @@ use mathlib.Core.Path.{_≡_, refl, sym, _∙_}
 use mathlib.Core.Bool.{true, false}
 use mathlib.Core.List.{List, [], _∷_}
 use Prim.Native.Nat.{ℕ, _*_, _≤_}
-use native.Mathlib.Omega.{arith}
 use lib.IntN.{ℤ, pos}
 use lib.ListN.{length}
 use Rattle.maths.proofs.Tables.{length-tab, length-table}
@@ -18,22 +17,19 @@ use Rattle.off.specs.Plain.{Ring, Plain, plain, several, ring, isOver}
 use Rattle.off.specs.Sewing.{Sewn, sewn, seamAmong, sewAll, sew}
 use Rattle.off.specs.Calls.{laid}
 use Rattle.off.specs.Lying.{noBlock, drawn, Matrices, Stands, PanelsRoom}
-use Rattle.off.proofs.lines.Several.{length-laid}
 use Rattle.off.specs.Wholes.{panelsThen, bodyThen, Blanks, EndTaken, TextTaken}
-
-none-found : {A B : Type 0} {x : A} {t : Text} → none ≡ found x t → B
-none-found e = let z : _≡_ {A = ℕ} 0 1 = cc in absurd (omega arith)
+use Rattle.off.proofs.lines.Several.{not-found, length-laid}
 
 -- nothing is found
 module _ {x : Found (List Ring)} {start : Sewn} {a : Imported} {m1 m2 m3 : List ℤ} where
   pub end-none : x ≡ none → a .refusal ≡ wrongOff → Matrices m1 m2 m3 → EndTaken x start a m1 m2 m3
-  end-none e w s = record { sizes = s; goes = λ rings u f. none-found (sym e ∙ f); ends = λ _. w }
+  end-none e w s = record { sizes = s; goes = λ rings u f. not-found (sym e ∙ f); ends = λ _. w }
 
   pub end-some : (rings : List Ring) → x ≡ found rings [] → Stands (sewAll start rings) a m1 m2 m3 → EndTaken x start a m1 m2 m3
   end-some rings e S = record {
     sizes = S .sizes;
     goes = λ rings' u f. let q : rings ≡ rings' = cc in rw (← q) S;
-    ends = λ f. none-found (sym f ∙ e);
+    ends = λ f. not-found (sym f ∙ e);
   }
 
 -- the rings, and nothing after them
@@ -56,8 +52,8 @@ module _ {x : Found Plain} {a : Imported} {m1 m2 m3 list : List ℤ} where
   text-none e w s l = record {
     sizes = s;
     size = l;
-    stands = λ P u f. none-found (sym e ∙ f);
-    lie = λ P u f. none-found (sym e ∙ f);
+    stands = λ P u f. not-found (sym e ∙ f);
+    lie = λ P u f. not-found (sym e ∙ f);
     ends = λ _. w;
   }
 
@@ -116,7 +112,7 @@ module _ (corners panels : ℕ) (t : Text) where
           size = rw l (length-laid c);
           stands = λ P v f. let q : plain corners c rings ≡ P = cc in rw (← q) (sewn-from (E .goes rings w refl));
           lie = λ P v f. let q : plain corners c rings ≡ P = cc in rw (← q) l;
-          ends = λ f. none-found (sym f);
+          ends = λ f. not-found (sym f);
         }
           where
             sewn-from : Stands (sewAll (sewn (drawn (cornersOnly corners) noBlock noBlock)) rings) a m1 m2 m3 → Stands (sew (plain corners c rings)) a m1 m2 m3

@@ -10,7 +10,7 @@ use Rattle.maths.specs.Tests.{all, count}
 use Rattle.maths.proofs.Cases.{eq-or, bool-or, by-bool, eqb-same, and-left, and-right}
 use Rattle.maths.proofs.Tests.{all-not, all-false, count-same, count-zero, count-le}
 
--- the test p, but not of t
+-- the test p, which t does not pass
 but : ℕ → (ℕ → Bool) → ℕ → Bool
 but t p i = p i && not (eqb i t)
 

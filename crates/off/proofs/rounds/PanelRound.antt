@@ -18,7 +18,7 @@ use Rattle.rules.specs.Operators.{Faces, chainOf}
 use Rattle.rules.proofs.bytes.Faces.{chain-at, chain-off}
 use Rattle.off.specs.Plain.{Ring}
 use Rattle.off.specs.Rings.{cornerAt, nextAt, cornersBelow, isRing}
-use Rattle.off.specs.Sewing.{Ends, endsOf, seamOf, sides, signOf}
+use Rattle.off.specs.Sewing.{SeamEnds, endsOf, seamOf, sides, signum}
 use Rattle.off.specs.Exporting.{comesFrom, goesTo, leavesBy, nowhere, nextAmong}
 use Rattle.off.proofs.sewing.SeamsFound.{seam-each, seam-sign}
 use Rattle.off.proofs.sewing.RingSides.{corner-below, corners-apart, AllMet, sides-below, sides-apart, sides-distinct}
@@ -26,7 +26,7 @@ use Rattle.off.proofs.rounds.Counting.{count-listed}
 use Rattle.off.proofs.rounds.Turning.{Along}
 
 -- where the panel v goes from a: to b, if it leaves a and always to b; nowhere, if it does not leave a
-module _ (E : Ends) (v : Chain) (a : ℕ) where
+module _ (E : SeamEnds) (v : Chain) (a : ℕ) where
   pub next-none : (n : ℕ) → ((j : ℕ) → j < n → leavesBy E v a j ≡ false) → nextAmong E v n a ≡ nowhere
   unfolding nextAmong
   next-none zero h = refl
@@ -50,7 +50,7 @@ module _ {r : Ring} (t : isRing r ≡ true) {X : Complex} (G : Good X) (low : co
   abbrev v : Chain
   v = chainOf F
 
-  abbrev E : Ends
+  abbrev E : SeamEnds
   E = endsOf (X 1)
 
   entry : (l : ℕ) → l < length r → v (F .number l) ≡ F .sign l
@@ -62,7 +62,7 @@ module _ {r : Ring} (t : isRing r ≡ true) {X : Complex} (G : Good X) (low : co
   way l h =
       let a = cornerAt r l in
       let b = nextAt r l in
-      seam-each E a b (λ z. z ≢ pos 0 → v (pred (natAbs z)) ≡ signOf z → (comesFrom E v (pred (natAbs z)) ≡ a) × (goesTo E v (pred (natAbs z)) ≡ b))
+      seam-each E a b (λ z. z ≢ pos 0 → v (pred (natAbs z)) ≡ signum z → (comesFrom E v (pred (natAbs z)) ≡ a) × (goesTo E v (pred (natAbs z)) ≡ b))
       (λ f. absurd (f refl)) (X 1 .n)
       (λ j h p q _ e. rw (e, p, q) (refl, refl))
       (λ j h p q _ e. rw (e, p, q) (refl, refl))
@@ -86,7 +86,7 @@ module _ {r : Ring} (t : isRing r ≡ true) {X : Complex} (G : Good X) (low : co
   unfolding leavesBy
   leaves l h = and-both (ap not (not-zero (some l h))) (eq-eqb (comesFrom E v (F .number l)) (cornerAt r l) (way l h .0))
 
-  -- by a seam that the panel leaves a by, a is the corner before it
+  -- a seam by which the panel leaves a is that of the side from a
   left-by : (a j : ℕ) → leavesBy E v a j ≡ true → (l : ℕ) × (l < length r) × (F .number l ≡ j) × (cornerAt r l ≡ a)
   unfolding leavesBy
   left-by a j e =

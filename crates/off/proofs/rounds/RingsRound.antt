@@ -1,13 +1,14 @@
 -- In what a plain text is sewn to, each panel goes round its ring, every seam is in a panel, and no two have the same two ends.
-use mathlib.Core.Path.{_≡_, refl, ap, fun-ext, _∙_}
+use mathlib.Core.Path.{_≡_, refl, sym, ap, fun-ext, _∙_}
 use mathlib.Core.Logic.{_≢_}
 use mathlib.Core.Bool.{true, not}
 use mathlib.Core.List.{List, [], _∷_, _++_, append-assoc, append-nil}
-use Prim.Native.Nat.{ℕ, zero, suc, _+_, _-_, _<_, _≤_}
+use Prim.Native.Nat.{ℕ, zero, suc, _+_, _<_, _≤_}
 use native.Mathlib.Omega.{arith}
 use borrow.Author.Tests.{eq-eqb}
 use lib.IntN.{pos}
-use lib.ListN.{length, getD, length-append}
+use lib.ListN.{length, getD, length-append, List·getD-append}
+use lib.Seq.{getD-at}
 use Rattle.maths.specs.Tests.{isZero}
 use Rattle.maths.proofs.Cases.{eq-or, lt-or, and-both}
 use Rattle.maths.proofs.Tests.{all-of, all-not, not-zero, zero-is}
@@ -22,12 +23,11 @@ use Rattle.rules.proofs.edits.Makes.{make-here, make-other}
 use Rattle.rules.proofs.texts.ReadGood.{corners-good}
 use Rattle.off.specs.Plain.{Ring, Plain}
 use Rattle.off.specs.Rings.{cornersBelow, SameRing}
-use Rattle.off.specs.Sewing.{Ends, Sewn, refused, sewn, endsOf, seamOf, sides, sewAll, sew}
+use Rattle.off.specs.Sewing.{SeamEnds, Sewn, refused, sewn, endsOf, seamOf, sides, sewAll, sew}
 use Rattle.off.specs.Exporting.{leavesBy, nextAmong, nextOf, ringOf, oneRing, isSewn, isAlone, isPlain}
 use Rattle.off.proofs.ends.SameWays.{same-next, same-alone}
 use Rattle.off.proofs.sewing.SidesMet.{Grew, all-met}
 use Rattle.off.proofs.sewing.RingsSewn.{OnePanel, ring-each, sew-refused}
-use Rattle.off.proofs.rounds.Listed.{append-left, append-right}
 use Rattle.off.proofs.rounds.Turning.{Along, walk-same, walk-closes}
 use Rattle.off.proofs.rounds.PanelRound.{panel-along, panel-faces, panel-side}
 
@@ -50,7 +50,7 @@ pub record AllRound (rings : List Ring) (X : Complex) : Type 0 where
   pub alone : (j : ℕ) → j < X 1 .n → isAlone (endsOf (X 1)) j ≡ true
 
 -- seams from n on that are not the panel's
-next-fewer : (E : Ends) (v : Chain) (n m a : ℕ) → n ≤ m → ((j : ℕ) → n ≤ j → v j ≡ pos 0) → nextAmong E v m a ≡ nextAmong E v n a
+next-fewer : (E : SeamEnds) (v : Chain) (n m a : ℕ) → n ≤ m → ((j : ℕ) → n ≤ j → v j ≡ pos 0) → nextAmong E v m a ≡ nextAmong E v n a
 unfolding nextAmong leavesBy
 next-fewer E v n zero a h z = let e : n ≡ 0 = omega arith in rw e
 next-fewer E v n (suc m) a h z = eq-or n (suc m) (λ e. rw e) (λ e. rw (z m (omega arith), zero-is) (next-fewer E v n m a (omega arith) z))
@@ -131,10 +131,9 @@ module _ {rings : List Ring} {r : Ring} {X Y : Complex} (A : AllRound rings X) (
         rounds = λ k h. eq-or k (length rings)
             (λ e.
             let q : k ≡ X 2 .n = omega (arith, A .panels) in
-            let z : k - length rings ≡ 0 = omega arith in
-            rw (append-right rings (r ∷ []) k [] (omega arith), z) (rw (← q) at new-round))
+            rw (getD-at rings r [] [] k (sym e)) (rw (← q) at new-round))
             (λ e.
-            rw (append-left rings (r ∷ []) k [] (omega arith))
+            rw (List·getD-append rings (r ∷ []) [] k (omega arith))
             (old-round k (omega (arith, A .panels)) (getD rings k []) (A .rounds k (omega arith))));
         used = used-now;
         alone = alone-now;

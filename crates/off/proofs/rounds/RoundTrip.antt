@@ -18,7 +18,7 @@ use Rattle.rules.proofs.texts.ReadGood.{corners-good}
 use Rattle.off.specs.Plain.{Ring}
 use Rattle.off.specs.Rings.{cornerAt, cornersBelow}
 use Rattle.off.specs.Sewing.{sewn, endsOf, sew}
-use Rattle.off.specs.Exporting.{listed, ringOf, oneRing, isSewn, isAlone, isPlain, plainOf}
+use Rattle.off.specs.Exporting.{listOf, ringOf, oneRing, isSewn, isAlone, isPlain, plainOf}
 use Rattle.off.proofs.sewing.SeamsFound.{ends-at}
 use Rattle.off.proofs.sewing.RingSides.{corners-apart, ring-long}
 use Rattle.off.proofs.rounds.Listed.{listed-length, listed-at}
@@ -59,7 +59,7 @@ module _ {X : Complex} (G : Good X) where
 
   module _ (plain : isPlain X ≡ true) where
     abbrev rings : List Ring
-    rings = listed (X 2 .n) (λ k. ringOf X (panel X k))
+    rings = listOf (X 2 .n) (λ k. ringOf X (panel X k))
 
     pub one-ring-at : (k : ℕ) → k < X 2 .n → oneRing X (panel X k) ≡ true
     unfolding isPlain

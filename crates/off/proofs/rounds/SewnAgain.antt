@@ -17,7 +17,7 @@ use Rattle.rules.specs.Good.{Good}
 use Rattle.rules.proofs.edits.Makes.{make-other}
 use Rattle.off.specs.Plain.{Ring}
 use Rattle.off.specs.Rings.{cornerAt, nextAt, cornersBelow, isRing}
-use Rattle.off.specs.Sewing.{Ends, sewn, goesFrom, endsOf, seamAmong, seamOf, sewAll}
+use Rattle.off.specs.Sewing.{SeamEnds, sewn, goesFrom, endsOf, seamAmong, seamOf, sewAll}
 use Rattle.off.specs.Exporting.{isAlone}
 use Rattle.off.proofs.sewing.SeamsFound.{seam-two, seam-below, none-turned}
 use Rattle.off.proofs.sewing.SeamsMade.{some-seam, minus-seam}
@@ -28,7 +28,7 @@ use Rattle.off.proofs.rounds.Counting.{few-apart}
 use Rattle.off.proofs.rounds.Followed.{Side}
 use Rattle.off.proofs.rounds.RingsRound.{AllRound, round-more}
 
-module _ (E : Ends) where
+module _ (E : SeamEnds) where
   -- a seam that has the two ends is found
   pub found-along : (n a b j : ℕ) → j < n → E .tail j ≡ a → E .head j ≡ b → seamAmong E n a b ≢ pos 0
   unfolding seamAmong goesFrom
@@ -80,10 +80,10 @@ pub record SeamsFrom (X W : Complex) : Type 0 where
 module _ {X : Complex} (G : Good X) where
   -- so there is room for a seam of X that W has not
   module _ {W : Complex} (S : SeamsFrom X W) (a b : ℕ) (there : seamOf (X 1) a b ≢ pos 0) (none : seamOf (W 1) a b ≡ pos 0) where
-    abbrev E : Ends
+    abbrev E : SeamEnds
     E = endsOf (X 1)
 
-    abbrev D : Ends
+    abbrev D : SeamEnds
     D = endsOf (W 1)
 
     -- the two ends of seam l of W, and then those of the new one
@@ -106,7 +106,7 @@ module _ {X : Complex} (G : Good X) where
         (λ h. rw (old-one l h .0, old-one l h .1) (S .met l h))
         (λ h. rw (new-one l h .0, new-one l h .1) there)
 
-    -- seam k is not the one before or after it
+    -- no two of them have the same two ends
     apart : (k l : ℕ) → k < l → l < suc (W 1 .n) → (one k ≡ one l → two k ≢ two l) × (one k ≡ two l → two k ≢ one l)
     apart k l h i =
         let o = old-one k (omega arith) in

@@ -6,16 +6,16 @@ use Prim.Native.Nat.{ℕ, zero, suc, _+_, _-_, _<_, _≤_}
 use native.Mathlib.Omega.{arith}
 use borrow.Author.Tests.{ltb-true, lt-ltb, le-leb, eq-eqb, ne-eqb, eqb-true, eqb-false, not-true, not-false}
 use lib.Dec.{eqb, ltb, leb}
-use lib.ListN.{length, take, drop, length-append, length-drop}
-use lib.Seq.{getD-drop, getD-take, length-take-le}
+use lib.ListN.{length, take, drop, length-append, length-drop, List·getD-append}
+use lib.Seq.{getD-drop, getD-take, getD-append-add, length-take-le}
 use Rattle.maths.specs.Tests.{all}
 use Rattle.maths.proofs.Cases.{lt-or, bool-or, no-eq, and-both}
 use Rattle.maths.proofs.Tests.{all-of, all-at, all-false}
 use Rattle.off.specs.Plain.{Ring}
 use Rattle.off.specs.Rings.{cornerAt, nextAt, cornersBelow, distinct, isRing, turnedTo, SameRing}
-use Rattle.off.specs.Exporting.{listed, lowestFrom, startOf, stepsFrom, walked, closesUp}
+use Rattle.off.specs.Exporting.{listOf, lowestFrom, startOf, stepsFrom, walked, closesUp}
 use Rattle.off.proofs.sewing.RingSides.{next-or, corner-below, next-below, ring-long, ring-short, corners-apart}
-use Rattle.off.proofs.rounds.Listed.{append-left, append-right, listed-length, listed-at, same-list}
+use Rattle.off.proofs.rounds.Listed.{listed-length, listed-at, same-list}
 
 -- the lowest number that passes p
 pub record Lowest (a n : ℕ) (p : ℕ → Bool) (m : ℕ) : Type 0 where
@@ -43,7 +43,7 @@ pub distinct-of : (r : Ring) → ((k l : ℕ) → k < l → l < length r → cor
 unfolding distinct
 distinct-of r h = all-of (length r) (λ l i. all-of l (λ k j. ap not (ne-eqb (cornerAt r k) (cornerAt r l) (h k l j i))))
 
--- from each corner of the ring one goes to the corner after it, and from no other anywhere
+-- from each corner of the ring one goes to the corner after it, and from any other number nowhere
 pub record Along (next : ℕ → ℕ) (r : Ring) : Type 0 where
   pub ring : isRing r ≡ true
   pub low : cornersBelow 96 r ≡ true
@@ -105,12 +105,12 @@ module _ {next : ℕ → ℕ} {r : Ring} (A : Along next r) where
         let size : length (drop k r) ≡ length r - k = length-drop k r in
         lt-or (k + l) (length r)
         (λ q.
-        append-left (drop k r) (take k r) l 0 (omega arith) ∙ getD-drop k r l 0
+        List·getD-append (drop k r) (take k r) 0 l (omega arith) ∙ getD-drop k r l 0
         ∙ sym (steps-at l (k + l) (omega arith) q (λ _. refl) (λ o. absurd (omega arith))))
         (λ q.
-        let place : l - length (drop k r) ≡ k + l - length r = omega arith in
-        append-right (drop k r) (take k r) l 0 (omega arith)
-        ∙ getD-take k r (l - length (drop k r)) 0 (omega arith) ∙ ap (cornerAt r) place
+        let again = k + l - length r in
+        let place : l ≡ length (drop k r) + again = omega arith in
+        ap (cornerAt (turnedTo k r)) place ∙ getD-append-add (drop k r) (take k r) again 0 ∙ getD-take k r again 0 (omega arith)
         ∙ sym (steps-at l (k + l - length r) (omega arith) (omega arith) (λ o. absurd (omega arith)) (λ _. omega arith)))
 
     turned-length : length (turnedTo k r) ≡ length r
@@ -158,9 +158,9 @@ module _ {next : ℕ → ℕ} {r : Ring} (A : Along next r) where
   walk-ring =
       let S = start in
       let long = listed-length (length r) steps in
-      and-both {a = leb 3 (length (listed (length r) steps)) && leb (length (listed (length r) steps)) 96}
+      and-both {a = leb 3 (length (listOf (length r) steps)) && leb (length (listOf (length r) steps)) 96}
       (rw long (and-both (le-leb 3 (length r) (ring-long r (A .ring))) (le-leb (length r) 96 (ring-short r (A .ring)))))
-      (distinct-of (listed (length r) steps) (λ l l' h i.
+      (distinct-of (listOf (length r) steps) (λ l l' h i.
       let j : l' < length r = omega arith in
       rw (listed-at (length r) steps l 0 (omega arith), listed-at (length r) steps l' 0 j, ← S .is)
       (steps-apart (S .place) (S .inside) l l' h j)))

@@ -29,7 +29,7 @@ use Rattle.off.specs.declared.answers.Imported.{Imported}
 use Rattle.off.specs.Plain.{Ring}
 use Rattle.off.specs.Rings.{cornerAt, nextAt, cornersBelow, isRing}
 use Rattle.off.specs.RingBytes.{Corners}
-use Rattle.off.specs.Sewing.{refused, sewn, afterSewn, endsOf, seamOf, signOf, sides, makePanel, sewRing}
+use Rattle.off.specs.Sewing.{refused, sewn, afterSewn, endsOf, seamOf, signum, sides, makePanel, sewRing}
 use Rattle.off.specs.Lying.{drawn, Drawn, Stands, Joined, RingSeams, SidesRoom, RingDrawn, withSides, meetSides}
 use Rattle.off.proofs.rings.Marks.{first-length}
 use Rattle.off.proofs.sewing.SeamsFound.{seam-small}
@@ -126,7 +126,7 @@ module _ {c : Counts} {bytes : List ℕ} {n : ℕ} {m1 m2 m3 : List ℤ} (R : Ri
 
         same-chain : (i : ℕ) → chainOf (sides (entries m3') r) i ≡ v i
         unfolding chainOf
-        same-chain i = sum-same (length r) (λ l h. ap (λ z. signOf z *ℤ δ (pred (natAbs z)) i) (side l h))
+        same-chain i = sum-same (length r) (λ l h. ap (λ z. signum z *ℤ δ (pred (natAbs z)) i) (side l h))
 
         nothing-past : (i : ℕ) → 96 ≤ i → v i ≡ pos 0
         nothing-past i h = chain-off (sides (seamOf (Y 1)) r) i

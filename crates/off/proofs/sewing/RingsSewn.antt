@@ -22,7 +22,7 @@ use Rattle.off.specs.Lying.{meetSides}
 use Rattle.off.proofs.sewing.RingSides.{panel-made, panel-good}
 use Rattle.off.proofs.sewing.SidesMet.{MetTo, Full, met-each, all-met}
 
--- what follows is put off
+-- of three steps, the first two are taken as one
 after-later : (s : Sewn) {f : Complex → Sewn} (g h : Complex → Sewn) → ((Y : Complex) → f Y ≡ afterSewn (g Y) refused h) →
     afterSewn s refused f ≡ afterSewn (afterSewn s refused g) refused h
 after-later (refused c) g h e = refl

@@ -15,7 +15,7 @@ use Rattle.rules.specs.Complex.{Complex, Chain}
 use Rattle.rules.specs.Good.{Good}
 use Rattle.rules.proofs.layers.Seams.{Ends as EndsAt, tail-is, head-is}
 use Rattle.rules.proofs.cells.Columns.{sound-at}
-use Rattle.off.specs.Sewing.{Ends, endsOf, goesFrom, seamAmong, seamOf, signOf}
+use Rattle.off.specs.Sewing.{SeamEnds, endsOf, goesFrom, seamAmong, seamOf, signum}
 
 -- a seam's column has its ends where they are found
 pub ends-at : {X : Complex} → Good X → (j : ℕ) → j < X 1 .n → EndsAt (λ i. X 1 .d i j) (endsOf (X 1) .tail j) (endsOf (X 1) .head j)
@@ -29,7 +29,7 @@ ends-entry {v} {a} {b} E i =
     rw (E .only i e f, δ-no a i e, δ-no b i f)
 
 -- what holds of no seam, of one from a to b and of one from b to a, holds of the seam between a and b
-module _ (E : Ends) (a b : ℕ) (P : ℤ → Type 0) (none : P (pos 0)) where
+module _ (E : SeamEnds) (a b : ℕ) (P : ℤ → Type 0) (none : P (pos 0)) where
   goes-says : (x y j : ℕ) → goesFrom E x y j ≡ true → (E .tail j ≡ x) × (E .head j ≡ y)
   unfolding goesFrom
   goes-says x y j e = (eqb-true (E .tail j) x (and-left _ _ e), eqb-true (E .head j) y (and-right (eqb (E .tail j) x) _ e))
@@ -45,7 +45,7 @@ module _ (E : Ends) (a b : ℕ) (P : ℤ → Type 0) (none : P (pos 0)) where
       (λ e. let g = goes-says b a n e in against n (omega arith) (g .0) (g .1)) λ _.
       seam-each n (λ j h. along j (omega arith)) (λ j h. against j (omega arith))
 
-module _ (E : Ends) (n a b : ℕ) where
+module _ (E : SeamEnds) (n a b : ℕ) where
   -- it is one of the first n, counted from 1
   pub seam-small : natAbs (seamAmong E n a b) ≤ n
   seam-small = seam-each E a b (λ z. natAbs z ≤ n) (omega arith) n (λ j h _ _. h) (λ j h _ _. h)
@@ -53,8 +53,8 @@ module _ (E : Ends) (n a b : ℕ) where
   pub seam-below : seamAmong E n a b ≢ pos 0 → pred (natAbs (seamAmong E n a b)) < n
   seam-below = seam-each E a b (λ z. z ≢ pos 0 → pred (natAbs z) < n) (λ f. absurd (f refl)) n (λ j h _ _ _. h) (λ j h _ _ _. h)
 
-  pub seam-sign : natAbs (signOf (seamAmong E n a b)) ≡ 1
-  seam-sign = seam-each E a b (λ z. natAbs (signOf z) ≡ 1) refl n (λ j h _ _. refl) (λ j h _ _. refl)
+  pub seam-sign : natAbs (signum (seamAmong E n a b)) ≡ 1
+  seam-sign = seam-each E a b (λ z. natAbs (signum z) ≡ 1) refl n (λ j h _ _. refl) (λ j h _ _. refl)
 
   -- its two ends, one way or the other
   pub seam-two : seamAmong E n a b ≢ pos 0 → (j : ℕ) → pred (natAbs (seamAmong E n a b)) ≡ j → {A : Type 0} →
@@ -65,7 +65,7 @@ module _ (E : Ends) (n a b : ℕ) where
       (λ k h p q _ e. against (rw e at p) (rw e at q)) f e
 
 -- two pairs of corners with one seam are the same, one way or the other
-pub seam-tells : (E : Ends) (n a b x y : ℕ) → seamAmong E n a b ≢ pos 0 → seamAmong E n x y ≢ pos 0 →
+pub seam-tells : (E : SeamEnds) (n a b x y : ℕ) → seamAmong E n a b ≢ pos 0 → seamAmong E n x y ≢ pos 0 →
     pred (natAbs (seamAmong E n a b)) ≡ pred (natAbs (seamAmong E n x y)) → {A : Type 0} → (a ≡ x → A) → (a ≡ y → b ≡ x → A) → A
 seam-tells E n a b x y f g e same turned =
     seam-two E n a b f _ e
@@ -77,14 +77,14 @@ turned-round x y = simp (ints, +ℤ-comm)
 
 -- a side's seam with its sign goes from corner a to corner b
 pub side-entry : {X : Complex} → Good X → (a b i : ℕ) → seamOf (X 1) a b ≢ pos 0 →
-    signOf (seamOf (X 1) a b) *ℤ X 1 .d i (pred (natAbs (seamOf (X 1) a b))) ≡ δ b i -ℤ δ a i
+    signum (seamOf (X 1) a b) *ℤ X 1 .d i (pred (natAbs (seamOf (X 1) a b))) ≡ δ b i -ℤ δ a i
 side-entry {X} G a b i =
-    seam-each (endsOf (X 1)) a b (λ z. z ≢ pos 0 → signOf z *ℤ X 1 .d i (pred (natAbs z)) ≡ δ b i -ℤ δ a i) (λ f. absurd (f refl)) (X 1 .n)
+    seam-each (endsOf (X 1)) a b (λ z. z ≢ pos 0 → signum z *ℤ X 1 .d i (pred (natAbs z)) ≡ δ b i -ℤ δ a i) (λ f. absurd (f refl)) (X 1 .n)
     (λ j h p q _. one-*ℤ (X 1 .d i j) ∙ ends-entry (ends-at G j h) i ∙ rw (p, q))
     (λ j h p q _. minus-one-*ℤ (X 1 .d i j) ∙ ap negℤ (ends-entry (ends-at G j h) i) ∙ rw (p, q) (turned-round (δ a i) (δ b i)))
 
 -- where there is no seam one way, there is none the other way
-pub none-turned : (E : Ends) (n a b : ℕ) → seamAmong E n a b ≡ pos 0 → seamAmong E n b a ≡ pos 0
+pub none-turned : (E : SeamEnds) (n a b : ℕ) → seamAmong E n a b ≡ pos 0 → seamAmong E n b a ≡ pos 0
 unfolding seamAmong
 none-turned E zero a b = λ _. refl
 none-turned E (suc j) a b =

@@ -16,7 +16,6 @@ use Rattle.rules.specs.Good.{Good}
 use Rattle.rules.specs.Edits.{layers, put, make}
 use Rattle.rules.specs.Operators.{refused, edited, chainOf, allBelow, closed, makeStep}
 use Rattle.rules.specs.Mesh.{tailOf, headOf}
-use Rattle.rules.proofs.branches.Branches.{cond-each}
 use Rattle.rules.proofs.layers.Changes.{put-same, put-no}
 use Rattle.rules.proofs.layers.Judged.{has-face, closes-is}
 use Rattle.rules.proofs.layers.Seams.{Ends as EndsAt, tail-is, head-is, minus-not-zero}
@@ -78,12 +77,6 @@ module _ (A : Layer) {v : Chain} {a b : ℕ} (E : EndsAt v a b) where
     where
       apart : (x y : ℕ) → (a ≡ x → b ≢ y) → eqb a x && eqb b y ≡ false
       apart x y f = eq-or a x (λ e. rw (e, eqb-same x, ne-eqb b y (f e))) (λ e. rw (ne-eqb a x e))
-
-  -- what was found is found still
-  pub grown-keeps : (x y : ℕ) → seamOf A x y ≢ pos 0 → seamOf (grownBy v A) x y ≢ pos 0
-  grown-keeps x y f = rw (grown-seam x y)
-      (cond-each (λ z. z ≢ pos 0) (eqb a x && eqb b y) (λ _. some-seam (A .n)) λ _.
-      cond-each (λ z. z ≢ pos 0) (eqb a y && eqb b x) (λ _. minus-seam (A .n)) λ _. f)
 
 module _ {X : Complex} (G : Good X) (a b : ℕ) (apart : a ≢ b) (first : a < X 0 .n) (second : b < X 0 .n) where
   abbrev v : Chain

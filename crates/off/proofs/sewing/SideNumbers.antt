@@ -17,13 +17,13 @@ use mir.Facts.{toZ-ofZ, toZ-pos}
 use Rattle.maths.proofs.Cases.{no-eq}
 use Rattle.maths.proofs.Sizes.{fits-size}
 use Rattle.grid.specs.Grid.{Lines}
-use Rattle.off.specs.Sewing.{signOf}
+use Rattle.off.specs.Sewing.{signum}
 
 -- the machine has the number k, and it is that of the seam z
 pub record Taken (x z : ℤ) (sign : ℤ) : Type 0 where
   pub fits : SFits w8 x
   pub is : toZ w8 (ofZ w8 x) ≡ pos (pred (natAbs z))
-  pub signed : signOf z ≡ sign
+  pub signed : signum z ≡ sign
   pub low : pred (natAbs z) < 96
 
 -- it is the number of a row
@@ -36,15 +36,15 @@ module _ {x z sign : ℤ} (T : Taken x z sign) where
   pub taken-lines : {m : List ℤ} {j : ℕ} → length m ≡ 9216 → j < 96 → Lines m (natAbs (toZ w8 (ofZ w8 x))) j
   taken-lines size inside = rw (T .is) (record { size = size; first = T .low; second = inside })
 
-along : (z : ℤ) → ltZ (pos 0) z ≡ true → (z -ℤ pos 1 ≡ pos (pred (natAbs z))) × (signOf z ≡ pos 1)
+along : (z : ℤ) → ltZ (pos 0) z ≡ true → (z -ℤ pos 1 ≡ pos (pred (natAbs z))) × (signum z ≡ pos 1)
 along (pos n) e = let h = ltb-true 0 n e in (rw (le-ltb n 1 (omega arith)) (ap pos (omega arith)), refl)
 along (negsuc n) e = no-eq e
 
-against : (z : ℤ) → ltZ (pos 0) z ≡ false → z ≢ pos 0 → (negsuc 0 -ℤ z ≡ pos (pred (natAbs z))) × (signOf z ≡ negsuc 0)
+against : (z : ℤ) → ltZ (pos 0) z ≡ false → z ≢ pos 0 → (negsuc 0 -ℤ z ≡ pos (pred (natAbs z))) × (signum z ≡ negsuc 0)
 against (pos n) e f = let none : n ≡ 0 = omega (arith, ltb-false 0 n e) in absurd (f (ap pos none))
 against (negsuc n) e f = (rw (le-ltb (suc n) 1 (omega arith)) (ap pos (omega arith)), refl)
 
-taken : {x z sign : ℤ} → natAbs z ≤ 96 → (x ≡ pos (pred (natAbs z))) × (signOf z ≡ sign) → Taken x z sign
+taken : {x z sign : ℤ} → natAbs z ≤ 96 → (x ≡ pos (pred (natAbs z))) × (signum z ≡ sign) → Taken x z sign
 taken {x} {z} small e =
     let low : pred (natAbs z) < 2 ^ 7 = omega arith in
     let h : SFits w8 (pos (pred (natAbs z))) = fits-size {z = pos (pred (natAbs z))} low in

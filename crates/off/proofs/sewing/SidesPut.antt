@@ -26,7 +26,7 @@ use Rattle.rules.proofs.layers.Changes.{put-same, put-no, put-zero}
 use Rattle.rules.proofs.bytes.Faces.{chain-off}
 use Rattle.off.specs.Plain.{Ring}
 use Rattle.off.specs.Rings.{cornerAt, nextAt}
-use Rattle.off.specs.Sewing.{signOf, sides}
+use Rattle.off.specs.Sewing.{signum, sides}
 use Rattle.off.specs.Lying.{SidesRoom, SideRoom, withSides}
 use Rattle.off.proofs.rings.Marks.{first-length}
 use Rattle.off.proofs.sewing.RingSides.{corner-below, next-below}
@@ -98,7 +98,7 @@ module _ {bytes : List ℕ} {n : ℕ} {m3 old : List ℤ} {j : ℕ} (S : SidesRo
             (record { size = stand-size ∙ S .size2; inside = S .inside; some = S .some l h; small = S .small (cornerAt r l) (nextAt r l) })
 
         pub stand-more : {m' : List ℤ} →
-            let z = toZ w8 (ofZ w8 (getD m3 (96 * b + a) (pos 0))) in m' ≡ over (withEntry (pred (natAbs z)) j (signOf z)) m → SidesStand r m3 old j m' (l + 1)
+            let z = toZ w8 (ofZ w8 (getD m3 (96 * b + a) (pos 0))) in m' ≡ over (withEntry (pred (natAbs z)) j (signum z)) m → SidesStand r m3 old j m' (l + 1)
         unfolding over withEntry
         stand-more {m'} e = record { inside = omega (arith, long); is = rw side-read at e ∙ tab-same entry }
           where

@@ -1,55 +1,35 @@
 -- A walk that closes up goes round at least three corners below 96, and what was taken of it tells whether it does.
 use mathlib.Core.Path.{_≡_, ap, _∙_}
 use mathlib.Core.Logic.{_≢_}
-use mathlib.Core.Bool.{true, false, _&&_}
+use mathlib.Core.Bool.{true, false}
 use mathlib.Core.List.{List}
 use Prim.Native.Nat.{ℕ, _<_, _≤_}
 use native.Mathlib.Omega.{arith}
-use borrow.Author.Tests.{ltb-true, leb-true, eqb-true}
-use lib.Dec.{eqb, ltb, leb}
+use borrow.Author.Tests.{leb-true}
+use lib.Dec.{leb}
 use lib.ListN.{length, take}
-use Rattle.maths.proofs.Cases.{bool-or, and-left, and-right, cond-true, cond-false}
+use Rattle.maths.proofs.Cases.{bool-or, and-left, cond-true, cond-false}
 use Rattle.rules.specs.Form.{within}
 use Rattle.off.specs.Rings.{cornersBelow, distinct, isRing}
 use Rattle.off.specs.RingBytes.{Corners}
-use Rattle.off.specs.Exporting.{startOf, stepsFrom, walked, closesUp}
+use Rattle.off.specs.Exporting.{startOf, walked, closesUp}
 use Rattle.off.specs.Walking.{RingWalked}
-use Rattle.off.proofs.rounds.Listed.{listed-length}
+use Rattle.off.proofs.rounds.Listed.{walked-length}
+use Rattle.off.proofs.rounds.Followed.{Closes, close-low, close-back, close-ring}
 use Rattle.off.proofs.walks.Walked.{StepsLow, listed-low}
-
-pub walked-length : (f : ℕ → ℕ) (n : ℕ) → length (walked f n) ≡ n
-unfolding walked
-walked-length f n = listed-length n (stepsFrom f (startOf f))
-
--- the three parts of closing up
-record Closed (f : ℕ → ℕ) (n : ℕ) : Type 0 where
-  start : startOf f < 96
-  back : stepsFrom f (startOf f) n ≡ startOf f
-  ring : isRing (walked f n) ≡ true
-
-closed : (f : ℕ → ℕ) (n : ℕ) → closesUp f n ≡ true → Closed f n
-unfolding closesUp
-closed f n e =
-    let a = startOf f in
-    let round = eqb (stepsFrom f a n) a in
-    let both = and-left (ltb a 96 && round) (isRing (walked f n)) e in
-    record {
-      start = ltb-true a 96 (and-left (ltb a 96) round both);
-      back = eqb-true (stepsFrom f a n) a (and-right (ltb a 96) round both);
-      ring = and-right (ltb a 96 && round) (isRing (walked f n)) e;
-    }
 
 pub closed-low : {f : ℕ → ℕ} → StepsLow f → (n : ℕ) → closesUp f n ≡ true → cornersBelow 96 (walked f n) ≡ true
 unfolding walked
 closed-low {f} S n e =
-    let c = closed f n e in
-    listed-low S (startOf f) (omega (arith, c .start)) n (omega (arith, c .start, c .back))
+    let C : Closes f n = record { is = e } in
+    listed-low S (startOf f) (omega (arith, close-low C)) n (omega (arith, close-low C, close-back C))
 
 closed-some : (f : ℕ → ℕ) (n : ℕ) → closesUp f n ≡ true → 0 < n
 unfolding isRing
 closed-some f n e =
     let r = walked f n in
-    let size = and-left (within 3 96 (length r)) (distinct r) (closed f n e .ring) in
+    let C : Closes f n = record { is = e } in
+    let size = and-left (within 3 96 (length r)) (distinct r) (close-ring C) in
     omega (arith, leb-true 3 (length r) (and-left (leb 3 (length r)) (leb (length r) 96) size), walked-length f n)
 
 -- what was taken

@@ -18,7 +18,8 @@ use Rattle.off.specs.Exporting.{ringLine}
 use Rattle.off.specs.Walking.{nextBy, RingWalked, panelCloses, panelRing, ringLines, RingsMeasured}
 use Rattle.off.proofs.lengths.Decimal.{number-most}
 use Rattle.off.proofs.lengths.LineLengths.{spaced-most}
-use Rattle.off.proofs.walks.Closing.{walked-length, not-closed, is-closed, ring-taken}
+use Rattle.off.proofs.rounds.Listed.{walked-length}
+use Rattle.off.proofs.walks.Closing.{not-closed, is-closed, ring-taken}
 
 ring-most : (r : Ring) → long (ringLine r) ≤ 8 * long r + 8
 unfolding ringLine

@@ -15,7 +15,7 @@ use Rattle.maths.specs.Tables.{table}
 use Rattle.maths.proofs.Cases.{by-bool, eq-or}
 use Rattle.maths.proofs.Tables.{length-table, getD-table, is-table}
 use Rattle.rules.specs.Complex.{Chain}
-use Rattle.off.specs.Sewing.{Ends}
+use Rattle.off.specs.Sewing.{SeamEnds}
 use Rattle.off.specs.Exporting.{leavesBy, nextAmong}
 use Rattle.off.specs.Walking.{nextBy}
 
@@ -29,7 +29,7 @@ set-table n f a v h =
     (λ e. rw (ne-eqb a b (λ q. e (sym q))) (getD-set-other (table n f) a b v 0 e ∙ getD-table n b f 0 below))
 
 -- the list after one seam more
-seam-more : (E : Ends) (v : Chain) (i : ℕ) → E .tail i < 96 → E .head i < 96 → {next : List ℕ} → next ≡ table 97 (nextAmong E v i) →
+seam-more : (E : SeamEnds) (v : Chain) (i : ℕ) → E .tail i < 96 → E .head i < 96 → {next : List ℕ} → next ≡ table 97 (nextAmong E v i) →
     cond (isZero (v i)) next (cond (eqZ (v i) (pos 1)) (set next (E .tail i) (E .head i)) (set next (E .head i) (E .tail i)))
     ≡ table 97 (nextAmong E v (i + 1))
 unfolding nextAmong leavesBy
@@ -48,7 +48,7 @@ seam-more E v i low-tail low-head {next} e =
     (λ _. set-table 97 f b a (omega arith)))
 
 -- the entry z was read, and `after` was made of it
-pub seam-put : (E : Ends) (v : Chain) (i : ℕ) → E .tail i < 96 → E .head i < 96 → {next after : List ℕ} {z : ℤ} → next ≡ table 97 (nextAmong E v i) → z ≡ v i →
+pub seam-put : (E : SeamEnds) (v : Chain) (i : ℕ) → E .tail i < 96 → E .head i < 96 → {next after : List ℕ} {z : ℤ} → next ≡ table 97 (nextAmong E v i) → z ≡ v i →
     after ≡ cond (isZero z) next (cond (eqZ z (pos 1)) (set next (E .tail i) (E .head i)) (set next (E .head i) (E .tail i))) →
     after ≡ table 97 (nextAmong E v (i + 1))
 seam-put E v i low-tail low-head e read put = put ∙ rw read (seam-more E v i low-tail low-head e)

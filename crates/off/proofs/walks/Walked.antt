@@ -1,26 +1,25 @@
--- A walk that goes by a list of 97 bytes: it is the walk of the panel, and where it closes up, it never was nowhere.
+-- A walk that goes by a list of 97 bytes: it is the walk of the panel, and where it closes up, it was never nowhere.
 use mathlib.Core.Path.{_≡_, refl, sym, ap, _∙_}
-use mathlib.Core.Logic.{_≢_}
 use mathlib.Core.Bool.{Bool, true, false, not, cond, _&&_, and-false}
 use mathlib.Core.List.{List, [], _∷_}
 use Prim.Native.Nat.{ℕ, zero, suc, _+_, _<_, _≤_}
 use native.Mathlib.Omega.{arith}
-use borrow.Author.Tests.{lt-ltb, le-ltb, eq-eqb, ne-eqb}
+use borrow.Author.Tests.{ltb-true, lt-ltb, le-ltb, eqb-true, ne-eqb}
 use lib.Dec.{eqb, ltb}
 use lib.IntN.{pos}
 use lib.ListN.{length, take, List·getD-eq-default}
 use Rattle.maths.specs.Tests.{eqZ, isZero}
 use Rattle.maths.specs.Tables.{table}
-use Rattle.maths.proofs.Cases.{by-bool, eq-or, lt-or, no-eq, and-both, cond-true, cond-false}
+use Rattle.maths.proofs.Cases.{by-bool, eq-or, lt-or, no-eq, and-left, and-right, cond-true, cond-false}
 use Rattle.maths.proofs.Tests.{all-of}
 use Rattle.maths.proofs.Tables.{getD-table}
 use Rattle.maths.proofs.Sums.{join-same}
 use Rattle.rules.specs.Complex.{Chain}
 use Rattle.off.specs.Rings.{cornersBelow, isRing}
 use Rattle.off.specs.RingBytes.{Corners}
-use Rattle.off.specs.Sewing.{Ends}
-use Rattle.off.specs.Exporting.{listed, leavesBy, comesFrom, goesTo, nextAmong, lowestFrom, startOf, stepsFrom, walked, closesUp}
-use Rattle.off.specs.Walking.{byteOf, Walk, RingWalked}
+use Rattle.off.specs.Sewing.{SeamEnds}
+use Rattle.off.specs.Exporting.{listOf, leavesBy, comesFrom, goesTo, nextAmong, lowestFrom, startOf, stepsFrom, walked, closesUp}
+use Rattle.off.specs.Walking.{byteOf, Walk, WentRound, RingWalked}
 use Rattle.off.proofs.rounds.Listed.{listed-length, listed-at}
 use Rattle.off.proofs.walks.NextCorners.{table-long}
 
@@ -30,7 +29,7 @@ pub record StepsLow (next : ℕ → ℕ) : Type 0 where
   pub stays : next 96 ≡ 96
 
 -- seams that have corners as ends
-module _ (E : Ends) (v : Chain) where
+module _ (E : SeamEnds) (v : Chain) where
   goes-low : (j : ℕ) → E .tail j < 96 → E .head j < 96 → goesTo E v j ≤ 96
   goes-low j t h = by-bool (eqZ (v j) (pos 1)) (λ s. cond s (E .head j) (E .tail j) ≤ 96) (λ _. omega arith) (λ _. omega arith)
 
@@ -83,13 +82,13 @@ module _ {f : ℕ → ℕ} (S : StepsLow f) (a : ℕ) (inside : a ≤ 96) where
   steps-stay l (suc n) h q = eq-or l (suc n) (λ same. rw same at q) (λ less. ap f (steps-stay l n (omega arith) q) ∙ S .stays)
 
   -- a walk that ends at a corner was at corners
-  steps-inside : (n : ℕ) → stepsFrom f a n < 96 → (l : ℕ) → l ≤ n → stepsFrom f a l < 96
+  pub steps-inside : (n : ℕ) → stepsFrom f a n < 96 → (l : ℕ) → l ≤ n → stepsFrom f a l < 96
   steps-inside n end l h =
       let low = steps-low l in
       lt-or (stepsFrom f a l) 96 (λ q. q) (λ q. absurd (omega (arith, steps-stay l n h (omega arith))))
 
   -- so its corners are below 96
-  pub listed-low : (n : ℕ) → stepsFrom f a n < 96 → cornersBelow 96 (listed n (stepsFrom f a)) ≡ true
+  pub listed-low : (n : ℕ) → stepsFrom f a n < 96 → cornersBelow 96 (listOf n (stepsFrom f a)) ≡ true
   unfolding cornersBelow
   listed-low n end =
       rw (listed-length n (stepsFrom f a))
@@ -100,8 +99,8 @@ module _ {f : ℕ → ℕ} (S : StepsLow f) {next : List ℕ} (e : next ≡ tabl
   byte-is : (a : ℕ) → a ≤ 96 → byteOf next a ≡ f a
   byte-is a h = rw e (getD-table 97 a f 0 (omega arith))
 
-  pub byte-low : (a : ℕ) → byteOf next a ≤ 96
-  byte-low a =
+  pub next-byte-low : (a : ℕ) → byteOf next a ≤ 96
+  next-byte-low a =
       lt-or a 97
       (λ h. rw (byte-is a (omega arith)) (S .low a))
       (λ h. rw (List·getD-eq-default next 0 {n = a} (omega (arith, table-long f e))) (omega arith))
@@ -128,44 +127,53 @@ module _ {f : ℕ → ℕ} (S : StepsLow f) {next : List ℕ} (e : next ≡ tabl
     pub start-inside : start ≤ 96
     start-inside = rw start-is start-low
 
-    open-walk : (n : ℕ) (bytes : List ℕ) → closesUp f n ≡ false → RingWalked f n 0 bytes
-    open-walk n bytes q = record { count = sym (cond-false n 0 q); ring = λ t. no-eq (sym q ∙ t) }
+    -- nowhere
+    pub round-none : 96 ≤ start → (n : ℕ) (bytes : List ℕ) → WentRound f n false bytes
+    round-none h n bytes = record { back = rw (← start-is, le-ltb start 96 h); ring = λ t. no-eq t }
 
-    pub no-start : 96 ≤ start → (n : ℕ) (bytes : List ℕ) → RingWalked f n 0 bytes
-    unfolding closesUp
-    no-start h n bytes = open-walk n bytes (rw (← start-is, le-ltb start 96 h))
-
-    -- and what it met on n steps
-    module _ {n end : ℕ} {bytes : List ℕ} (W : Walk next start n end bytes) where
+    -- or at a corner, and then what it met on n steps
+    module _ (h : start < 96) {n end : ℕ} {bytes : List ℕ} (W : Walk next start n end bytes) where
       end-is : end ≡ stepsFrom f (startOf f) n
       end-is = W .comes ∙ steps-same start start-inside n ∙ ap (λ a. stepsFrom f a n) start-is
 
-      met : take n bytes ≡ listed n (stepsFrom f start)
+      met : take n bytes ≡ listOf n (stepsFrom f start)
       met = W .ring ∙ join-same n (λ l _. ap (λ c. c ∷ []) (steps-same start start-inside l))
 
       ring-is : take n bytes ≡ walked f n
       unfolding walked
-      ring-is = met ∙ ap (λ a. listed n (stepsFrom f a)) start-is
+      ring-is = met ∙ ap (λ a. listOf n (stepsFrom f a)) start-is
 
-      pub not-back : end ≢ start → RingWalked f n 0 bytes
-      unfolding closesUp
-      not-back h =
-          open-walk n bytes (rw (← end-is, ← start-is, ne-eqb end start h, and-false (ltb start 96)))
+      pub round-walked : {r : Bool} → r ≡ eqb end start → WentRound f n r bytes
+      round-walked q = record { back = q ∙ rw (← end-is, ← start-is, lt-ltb start 96 h); ring = λ _. ring-is }
 
-      pub no-ring : isRing (take n bytes) ≡ false → RingWalked f n 0 bytes
-      unfolding closesUp
-      no-ring q =
-          let a = startOf f in open-walk n bytes (rw (← ring-is, q) (and-false (ltb a 96 && eqb (stepsFrom f a n) a)))
+-- a walk that went round, or not
+module _ {f : ℕ → ℕ} {n : ℕ} {r : Bool} {bytes : List ℕ} (W : WentRound f n r bytes) where
+  closing : closesUp f n ≡ r && isRing (walked f n)
+  unfolding closesUp
+  closing = rw (W .back)
 
-      module _ (back : end ≡ start) (h : start < 96) where
-        closed : isRing (take n bytes) ≡ true → closesUp f n ≡ true
-        unfolding closesUp
-        closed q = rw (← ring-is, ← end-is, ← start-is) (and-both (and-both (lt-ltb start 96 h) (eq-eqb end start back)) q)
+  open-walk : closesUp f n ≡ false → RingWalked f n 0 bytes
+  open-walk q = record { count = sym (cond-false n 0 q); ring = λ t. no-eq (sym q ∙ t) }
 
-        pub one-ring : isRing (take n bytes) ≡ true → RingWalked f n n bytes
-        one-ring q = record { count = sym (cond-true n 0 (closed q)); ring = λ _. ring-is }
+  -- where it closes up, it went round
+  pub went-round : closesUp f n ≡ true → r ≡ true
+  went-round e = and-left r (isRing (walked f n)) (sym closing ∙ e)
 
-        pub corners-low : n ≤ 96 → length bytes ≡ 96 → Corners bytes n
-        corners-low few room =
-            let end-low : stepsFrom f start n < 96 = rw (← steps-same start start-inside n, ← W .comes, back) h in
-            record { room = room; few = few; low = rw met (listed-low S start start-inside n end-low) }
+  pub not-round : r ≡ false → RingWalked f n 0 bytes
+  not-round q = open-walk (closing ∙ rw q)
+
+  module _ (q : r ≡ true) where
+    pub no-ring : isRing (take n bytes) ≡ false → RingWalked f n 0 bytes
+    no-ring t = open-walk (closing ∙ rw (← W .ring q, q, t))
+
+    pub one-ring : isRing (take n bytes) ≡ true → RingWalked f n n bytes
+    one-ring t = record { count = sym (cond-true n 0 (closing ∙ rw (← W .ring q, q, t))); ring = λ _. W .ring q }
+
+    pub corners-low : StepsLow f → n ≤ 96 → length bytes ≡ 96 → Corners bytes n
+    unfolding walked
+    corners-low S few room =
+        let a = startOf f in
+        let both : ltb a 96 && eqb (stepsFrom f a n) a ≡ true = sym (W .back) ∙ q in
+        let start : a < 96 = ltb-true a 96 (and-left (ltb a 96) _ both) in
+        let back : stepsFrom f a n ≡ a = eqb-true (stepsFrom f a n) a (and-right (ltb a 96) _ both) in
+        record { room = room; few = few; low = rw (W .ring q) (listed-low S a (omega arith) n (omega arith)) }

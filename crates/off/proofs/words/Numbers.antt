@@ -11,7 +11,7 @@ use lib.IntN.{pos}
 use lib.ListN.{length, getD, drop}
 use borrow.Author.Tests.{le-leb, lt-leb, leb-true}
 use Rattle.maths.proofs.Cases.{by-bool, and-left, and-right}
-use Rattle.off.specs.Words.{Text, none, found, isDigit, wordEnds, Digits, digits, digitsFrom, numberOf, farthest, minus}
+use Rattle.off.specs.Words.{Text, none, found, isDigit, wordEnds, Digits, theDigits, digitsFrom, numberOf, farthest, minus}
 use Rattle.off.specs.Reading.{IsLimited}
 use Rattle.off.specs.declared.words.Number.{Number}
 use Rattle.off.specs.declared.words.Signed.{Signed}
@@ -31,11 +31,11 @@ module _ (s : List ℕ) (at n k : ℕ) where
   unfolding digitsFrom
   digit-more h e = rw (text-at s at h, e, add-one k)
 
-  pub digit-none : at < length s → isDigit (getD s at 0) ≡ false → digits n k (drop at s) ≡ digitsFrom n k (drop at s)
+  pub digit-none : at < length s → isDigit (getD s at 0) ≡ false → theDigits n k (drop at s) ≡ digitsFrom n k (drop at s)
   unfolding digitsFrom
   digit-none h e = rw (text-at s at h, e)
 
-  pub digit-over : length s ≤ at → digits n k (drop at s) ≡ digitsFrom n k (drop at s)
+  pub digit-over : length s ≤ at → theDigits n k (drop at s) ≡ digitsFrom n k (drop at s)
   unfolding digitsFrom
   digit-over h = rw (text-over s at h)
 
@@ -44,7 +44,7 @@ pub count-least : (n k : ℕ) (t : Text) → k ≤ digitsFrom n k t .count
 unfolding digitsFrom
 count-least n k [] = omega arith
 count-least n k (b ∷ t) =
-    by-bool (isDigit b) (λ x. k ≤ (cond x (digitsFrom (10 * n + (b - 48)) (suc k) t) (digits n k (b ∷ t))) .count)
+    by-bool (isDigit b) (λ x. k ≤ (cond x (digitsFrom (10 * n + (b - 48)) (suc k) t) (theDigits n k (b ∷ t))) .count)
     (λ _. omega (arith, count-least (10 * n + (b - 48)) (suc k) t))
     (λ _. omega arith)
 
@@ -66,15 +66,15 @@ digit-past s at n k h e l q =
     rw (← q, ← digit-more s at n k h e)
     (long-number (digitsFrom longer (k + 1) (drop (at + 1) s)) (omega (arith, count-least longer (k + 1) (drop (at + 1) s))))
 
--- the other ways of a number
+-- how a number ends: without a digit, inside a word, or found
 module _ (n : ℕ) (t : Text) where
-  pub no-digit : (k : ℕ) → k ≡ 0 → none ≡ numberOf (digits n k t)
+  pub no-digit : (k : ℕ) → k ≡ 0 → none ≡ numberOf (theDigits n k t)
   no-digit k e = rw e
 
-  pub no-end : (k : ℕ) → wordEnds t ≡ false → none ≡ numberOf (digits n k t)
+  pub no-end : (k : ℕ) → wordEnds t ≡ false → none ≡ numberOf (theDigits n k t)
   no-end k e = by-bool (leb 1 k && leb k 7) (λ x. none ≡ cond (x && wordEnds t) (found n t) none) (λ _. rw e) (λ _. refl)
 
-  pub a-number : (k : ℕ) → 1 ≤ k → k ≤ 7 → wordEnds t ≡ true → found n t ≡ numberOf (digits n k t)
+  pub a-number : (k : ℕ) → 1 ≤ k → k ≤ 7 → wordEnds t ≡ true → found n t ≡ numberOf (theDigits n k t)
   a-number k l h e = rw (le-leb 1 k l, le-leb k 7 h, e)
 
 -- a call answered r: the contract says what its reading f is, and the arm that took it what r is

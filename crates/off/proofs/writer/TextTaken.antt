@@ -1,33 +1,24 @@
 -- The ends that were taken are those of the pattern: so are its tests and its text.
 use mathlib.Core.Path.{_≡_, ap, fun-ext}
-use mathlib.Core.Bool.{Bool, cond}
 use mathlib.Core.List.{List}
-use Prim.Native.Nat.{ℕ, suc, _<_, _≤_}
-use native.Mathlib.Omega.{arith}
+use Prim.Native.Nat.{ℕ}
 use lib.IntN.{ℤ, pos, negsuc}
-use Rattle.maths.specs.Tests.{eqZ, all, last}
+use Rattle.maths.specs.Tests.{all}
 use Rattle.maths.specs.Sums.{join}
 use Rattle.maths.specs.Tables.{column}
-use Rattle.maths.proofs.Cases.{by-bool}
-use Rattle.maths.proofs.Tests.{last-le, all-same}
+use Rattle.maths.proofs.Tests.{all-same}
 use Rattle.maths.proofs.Sums.{join-same}
 use Rattle.rules.specs.declared.counts.Counts.{Counts}
 use Rattle.rules.specs.Counts.{countOf}
-use Rattle.rules.specs.Complex.{layer, Chain}
-use Rattle.rules.specs.Mesh.{faceWith, faceCount}
+use Rattle.rules.specs.Complex.{layer}
+use Rattle.rules.specs.Mesh.{faceCount}
 use Rattle.off.specs.Sewing.{endsOf}
 use Rattle.off.specs.Exporting.{nextOf, isAlone, isSewn, isPlain, walked, closesUp, oneRing, ringOf, ringLine, exportText}
 use Rattle.off.specs.Lying.{drawn}
 use Rattle.off.specs.Walking.{endsBy, EndsTaken, EndsLow, nextBy, panelCloses, ringLines}
 use Rattle.off.specs.Writing.{plainBy, textBy}
 use Rattle.off.proofs.ends.SameWays.{SameBelow, same-next, same-alone}
-
-last-below : (n : ℕ) (p : ℕ → Bool) → last (suc n) p ≤ n
-unfolding last
-last-below n p = by-bool (p n) (λ t. cond t n (last n p) ≤ n) (λ _. omega arith) (λ _. last-le n p)
-
-face-low : (z : ℤ) (v : Chain) → faceWith z v < 96
-face-low z v = omega (arith, last-below 95 (λ i. eqZ (v i) z))
+use Rattle.off.proofs.ends.EndsFound.{face-low}
 
 -- ends of columns are corners below 96
 pub ends-low : {m1 : List ℤ} {n : ℕ} {tails heads : List ℕ} → EndsTaken m1 n tails heads → EndsLow n tails heads

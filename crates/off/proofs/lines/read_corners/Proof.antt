@@ -55,7 +55,8 @@ taken c =
 all-taken : tie.Need-returns-2 Inv-loop μ-loop
 all-taken c =
     let loop = c .before .loop in
-    let all-read-now : loop .l ≡ c .before .before .before .before .args .n = omega arith in
+    let start = c .before .before .before .before in
+    let all-read-now : loop .l ≡ start .args .n = omega arith in
     record {
       ring = loop .inv .ring;
       is = all-read natural (loop .inv .sofar) (omega arith);

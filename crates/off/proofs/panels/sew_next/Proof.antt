@@ -6,33 +6,37 @@ use Rattle.off.proofs.panels.NextSewing.{next-stays, next-far, next-lon
 use Rattle.off.proofs.panels.sew_next.Statement.{statement}
 use Rattle.off.proofs.panels.sew_next.Tie as tie
 
+-- where nothing was refused yet
+abbrev start : tie.Else1 → tie.Start
+start accepts = accepts .before .before .before
+
 far : tie.Need-returns-2
-far c = let accepts = c .before .before in next-far (accepts .before .before .before .pre) (omega arith) (not-true _ (c .if2 .taken))
+far c = let accepts = c .before .before in next-far (start accepts .pre) (omega arith) (not-true _ (c .if2 .taken))
 
 long : tie.Need-returns-3
 long c =
     let near = c .before in
     let accepts = near .before .before in
-    next-long (accepts .before .before .before .pre) (omega arith) (not-false _ (near .if2 .left)) (omega arith)
+    next-long (start accepts .pre) (omega arith) (not-false _ (near .if2 .left)) (omega arith)
 
 lies : tie.Need-sew-ring-requires
 lies c κs =
     let near = c .before .before .before .before in
     let accepts = near .before .before in
-    next-drawn (accepts .before .before .before .pre) (omega arith) (not-false _ (near .if2 .left)) (omega arith)
+    next-drawn (start accepts .pre) (omega arith) (not-false _ (near .if2 .left)) (omega arith)
 
 sewn : tie.Need-returns-4
 sewn c =
     let call = c .before .before .before in
     let near = call .before .before .before .before .before in
     let accepts = near .before .before in
-    next-sewn (accepts .before .before .before .pre) (omega arith) (not-false _ (near .if2 .left)) (omega arith) (call .sew-ring .ensures)
+    next-sewn (start accepts .pre) (omega arith) (not-false _ (near .if2 .left)) (omega arith) (call .sew-ring .ensures)
 
 pub sew-next-spec : {M : Type 1} → statement M
 sew-next-spec =
     tie.close
     (tie.spec
-    (λ c. next-stays (c .before .before .before .pre) (omega arith))
+    (λ c. let start = c .before .before .before in next-stays (start .pre) (omega arith))
     far
     long
     lies

@@ -61,10 +61,10 @@ passed c =
 
 -- where matrix 1 is cleared again, and before that the text was read
 abbrev again : tie.After-no-pattern3 → tie.After-clear5
-again c = let list = c .before .before in list .before .before .before .before .before .before
+again c = c .before .before .before .before .before .before .before .before
 
 abbrev read : tie.After-struct-known → tie.After-read-text
-read c = let third = c .before .before in third .before .before .before .before .before .before
+read c = c .before .before .before .before .before .before .before .before
 
 refused : tie.Need-returns-3
 refused c =
@@ -89,9 +89,13 @@ taken c =
     taken-left (s .args .s .now) (entry s) (s .args .list .now) (long (lengths .before)) (lengths .if2 .left) (call .read-text .ensures) (c .if3 .left)
     (third .clear4 .ensures)
 
+-- what the reading left, before matrix 1 is cleared again
+abbrev left : tie.After-no-pattern3 → tie.After-read-text
+left c = let told = again c .before .before .before in read told
+
 -- the lengths are what they were
-clear-again : (c : tie.After-no-pattern3) → Sized (entry (begun (passed (read (again c .before .before .before)))))
-clear-again c = sizes (passed (read (again c .before .before .before)))
+clear-again : (c : tie.After-no-pattern3) → Sized (entry (begun (passed (left c))))
+clear-again c = sizes (passed (left c))
 
 pub import-off-spec : {M : Type 1} → statement M
 import-off-spec =
@@ -109,8 +113,8 @@ import-off-spec =
     (λ c. search needs)
     short-coordinates
     (λ c κs. sizes (c .before) .size1)
-    (λ c κs. sizes (c .before .before .before .before) .size2)
-    (λ c κs. sizes (c .before .before .before .before .before .before .before) .size3)
+    (λ c κs. let lengths = c .before .before .before .before in sizes lengths .size2)
+    (λ c κs. let lengths = c .before .before .before .before .before .before .before in sizes lengths .size3)
     (λ c κs. search needs)
     blank
     (λ c κs. search needs)
@@ -122,7 +126,7 @@ import-off-spec =
     (λ c. let second = c .before .before .before .before .before in ap length (second .clear6 .ensures) ∙ length-tab _ ∙ sym (clear-again c .size2))
     (λ c. let third = again c .before .before .before .before .before in ap length (third .clear4 .ensures) ∙ length-tab _ ∙ sym (clear-again c .size3))
     (λ c.
-    let lengths = passed (read (again c .before .before .before)) in
+    let lengths = passed (left c) in
     ap length (c .before .before .clear-coordinates2 .ensures) ∙ length-table 0 288 _ ∙ sym (lengths .if2 .left))
     refused
     (λ c. let call = read (c .before) in call .read-text .ensures .sizes .size1 ∙ sym (sizes (passed call) .size1))

@@ -26,7 +26,8 @@ along-fits c κs =
 minus-fits : tie.Need-sub-set-entry
 minus-fits c =
     let tail = c .before .before .before .before .before .before .before .before in
-    minus-number-fits (tail .before .before .before .pre .room)
+    let h = tail .before .before .before .pre in
+    minus-number-fits (h .room)
 
 against-fits : tie.Need-set-entry-requires-4
 against-fits c κs =

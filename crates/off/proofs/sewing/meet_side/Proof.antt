@@ -27,10 +27,13 @@ place-fits : tie.Need-add-is-zero8
 place-fits c = omega (arith, first-low (c .pre), second-low (c .pre))
 
 there : tie.Need-returns
-there c = joined-there (c .before .before .before .pre) (zero-false (sym (tested (c .before)) ∙ not-true _ (c .if1 .taken)))
+there c = let h = c .before .before .before .pre in joined-there h (zero-false (sym (tested (c .before)) ∙ not-true _ (c .if1 .taken)))
 
 full : tie.Need-returns-2
-full c = let none = c .before .before in joined-full (none .before .before .before .pre) (absent none) (omega arith)
+full c =
+    let none = c .before .before in
+    let h = none .before .before .before .pre in
+    joined-full h (absent none) (omega arith)
 
 room : tie.Need-add-seam-requires
 room c κs =

@@ -18,23 +18,33 @@ abbrev μ-loop : tie.MeasureT-loop
 abbrev Turn : Type 0
 Turn = tie.In-loop Inv-loop μ-loop
 
+abbrev start : Turn → tie.Start Inv-loop μ-loop
+start turn = turn .before .before .before
+
 -- the corner that is read
-corner : (c : Turn) → let x = c .before .before .before .args in
+corner : (c : Turn) → let x = start c .args in
     getD (x .bytes .now) (c .before .loop .l) 0 ≡ cornerAt (take (x .n) (x .bytes .now)) (c .before .loop .l)
-corner c = let x = c .before .before .before .args in sym (getD-take (x .n) (x .bytes .now) (c .before .loop .l) 0 (omega arith))
+corner c = let x = start c .args in sym (getD-take (x .n) (x .bytes .now) (c .before .loop .l) 0 (omega arith))
 
 corners : tie.Need-meet-side-requires Inv-loop μ-loop
 corners c κs =
     let next = c .before .before in
     let turn = next .before .before in
-    two-corners (turn .before .before .before .pre) (turn .before .loop .inv) (omega arith) (corner turn) (next .next-corner .ensures)
+    two-corners (start turn .pre) (turn .before .loop .inv) (omega arith) (corner turn) (next .next-corner .ensures)
+
+-- the turn whose side found no room
+abbrev last : tie.Then1 Inv-loop μ-loop → Turn
+last c =
+    let call = c .before .before .before .before in
+    let next = call .before .before .before in
+    next .before .before
 
 refused : tie.Need-returns Inv-loop μ-loop
 refused c =
     let call = c .before .before .before .before in
     let next = call .before .before .before in
     let turn = next .before .before in
-    going-stops (turn .before .before .before .pre) (turn .before .loop .inv) (omega arith) (corner turn) (next .next-corner .ensures)
+    going-stops (start turn .pre) (turn .before .loop .inv) (omega arith) (corner turn) (next .next-corner .ensures)
     (call .meet-side .ensures) (omega arith)
 
 met : tie.Need-loop-again Inv-loop μ-loop
@@ -42,7 +52,7 @@ met c =
     let call = c .before .before .before .before .before in
     let next = call .before .before .before in
     let turn = next .before .before in
-    going-on (turn .before .before .before .pre) (turn .before .loop .inv) (omega arith) (corner turn) (next .next-corner .ensures)
+    going-on (start turn .pre) (turn .before .loop .inv) (omega arith) (corner turn) (next .next-corner .ensures)
     (call .meet-side .ensures) (omega arith)
 
 done : tie.Need-returns-2 Inv-loop μ-loop
@@ -59,12 +69,12 @@ meet-sides-spec =
     (λ c. omega (arith, c .shared-slice-known2 .given (c .before .before .loop .l)))
     (λ c κs. omega arith)
     corners
-    (λ c. joined-sizes (c .before .before .before .before .before .before .before .before .before .before .before .before .pre) (refused c) .0)
-    (λ c. joined-sizes (c .before .before .before .before .before .before .before .before .before .before .before .before .pre) (refused c) .1)
+    (λ c. joined-sizes (start (last c) .pre) (refused c) .0)
+    (λ c. joined-sizes (start (last c) .pre) (refused c) .1)
     refused
     (λ c. omega arith)
     (λ c. omega arith)
     met
-    (λ c. joined-sizes (c .before .before .before .pre) (done c) .0)
-    (λ c. joined-sizes (c .before .before .before .pre) (done c) .1)
+    (λ c. let start = c .before .before .before in joined-sizes (start .pre) (done c) .0)
+    (λ c. let start = c .before .before .before in joined-sizes (start .pre) (done c) .1)
     done)

@@ -15,12 +15,14 @@ against c = taken-against (c .before .fits .z) (c .before .pre .small) (c .if1 .
 
 returns : tie.Need-returns
 returns c =
-    let T = along (c .before .before .before) in
+    let test = c .before .before .before in
+    let T = along test in
     rw (T .signed) (rw (T .is) at (c .before .set-entry .ensures))
 
 returns-2 : tie.Need-returns-2
 returns-2 c =
-    let T = against (c .before .before .before) in
+    let test = c .before .before .before in
+    let T = against test in
     rw (T .signed) (rw (T .is) at (c .before .set-entry2 .ensures))
 
 pub put-side-spec : {M : Type 1} → statement M

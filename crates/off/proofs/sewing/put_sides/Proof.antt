@@ -15,32 +15,37 @@ Inv-loop bytes n m3 m2₀ j l₀ m2 l = SidesStand (take n bytes) m3 m2₀ j m2 
 abbrev μ-loop : tie.MeasureT-loop
 μ-loop bytes n m3 m2₀ j l₀ m2 l = n - l
 
+abbrev Turn : Type 0
+Turn = tie.In-loop Inv-loop μ-loop
+
+abbrev start : Turn → tie.Start Inv-loop μ-loop
+start turn = turn .before .before .before
+
 -- the corner that is read
-corner : (c : tie.In-loop Inv-loop μ-loop) → let x = c .before .before .before .args in
+corner : (c : Turn) → let x = start c .args in
     getD (x .bytes .now) (c .before .loop .l) 0 ≡ cornerAt (take (x .n) (x .bytes .now)) (c .before .loop .l)
-corner c = let x = c .before .before .before .args in sym (getD-take (x .n) (x .bytes .now) (c .before .loop .l) 0 (omega arith))
+corner c = let x = start c .args in sym (getD-take (x .n) (x .bytes .now) (c .before .loop .l) 0 (omega arith))
 
 -- the two corners are below 96
 low : (c : tie.After-next-corner Inv-loop μ-loop) → let turn = c .before .before .before in
     (getD (turn .before .before .args .bytes .now) (turn .loop .l) 0 < 96) × (c .next-corner .result < 96)
 low c =
     let turn = c .before .before in
-    let start = turn .before .before .before in
-    let a = corner-low (start .pre) (turn .before .loop .inv) (omega arith) (corner turn) (c .next-corner .ensures) in
-    (a, next-low (start .pre) (turn .before .loop .inv) (omega arith) (corner turn) (c .next-corner .ensures))
+    let a = corner-low (start turn .pre) (turn .before .loop .inv) (omega arith) (corner turn) (c .next-corner .ensures) in
+    (a, next-low (start turn .pre) (turn .before .loop .inv) (omega arith) (corner turn) (c .next-corner .ensures))
 
 room : tie.Need-put-side-requires Inv-loop μ-loop
 room c κs =
     let next = c .before .before in
     let turn = next .before .before in
-    side-room (turn .before .before .before .pre) (turn .before .loop .inv) (omega arith) (corner turn) (next .next-corner .ensures) (c .put-side-arg2 .given)
+    side-room (start turn .pre) (turn .before .loop .inv) (omega arith) (corner turn) (next .next-corner .ensures) (c .put-side-arg2 .given)
 
 more : tie.Need-loop-again Inv-loop μ-loop
 more c =
     let put = c .before in
     let next = put .before .before .before in
     let turn = next .before .before in
-    stand-more (turn .before .before .before .pre) (turn .before .loop .inv) (omega arith) (corner turn) (next .next-corner .ensures)
+    stand-more (start turn .pre) (turn .before .loop .inv) (omega arith) (corner turn) (next .next-corner .ensures)
     (put .before .put-side-arg2 .given) (put .put-side .ensures)
 
 done : tie.Need-returns Inv-loop μ-loop

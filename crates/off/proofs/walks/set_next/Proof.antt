@@ -17,13 +17,15 @@ returns c = sym (cond-true _ _ (sym (none (c .before)) ∙ c .if1 .taken))
 returns-2 : tie.Need-returns-2
 returns-2 c =
     let test = c .before .before in
-    let plus = rw (toZ-ofZ (test .before .before .before .fits .z)) at (c .before .eq8 .ensures) in
+    let start = test .before .before .before in
+    let plus = rw (toZ-ofZ (start .fits .z)) at (c .before .eq8 .ensures) in
     sym (cond-false _ _ (sym (none (test .before)) ∙ test .if1 .left) ∙ cond-true _ _ (sym plus ∙ c .if2 .taken))
 
 returns-3 : tie.Need-returns-3
 returns-3 c =
     let test = c .before .before in
-    let plus = rw (toZ-ofZ (test .before .before .before .fits .z)) at (c .before .eq8 .ensures) in
+    let start = test .before .before .before in
+    let plus = rw (toZ-ofZ (start .fits .z)) at (c .before .eq8 .ensures) in
     sym (cond-false _ _ (sym (none (test .before)) ∙ test .if1 .left) ∙ cond-false _ _ (sym plus ∙ c .if2 .left))
 
 pub set-next-spec : {M : Type 1} → statement M

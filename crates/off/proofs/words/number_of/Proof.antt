@@ -5,7 +5,7 @@ use native.Mathlib.Omega.{arith}
 use borrow.Author.Needs.{needs}
 use borrow.Author.Tests.{not-true, not-false}
 use lib.ListN.{drop}
-use Rattle.off.specs.Words.{digits}
+use Rattle.off.specs.Words.{theDigits}
 use Rattle.off.proofs.words.Numbers.{no-digit, long-number, no-end, a-number}
 use Rattle.off.proofs.words.number_of.Statement.{statement}
 use Rattle.off.proofs.words.number_of.Tie as tie
@@ -16,7 +16,7 @@ empty c = let args = c .before .before .args in no-digit _ _ (args .next - args 
 long : tie.Need-returns-2
 long c =
     let args = c .before .before .before .args in
-    long-number (digits (args .n) (args .next - args .at) (drop (args .next) (args .s .now))) (omega arith)
+    long-number (theDigits (args .n) (args .next - args .at) (drop (args .next) (args .s .now))) (omega arith)
 
 goes-on : tie.Need-returns-3
 goes-on c =
