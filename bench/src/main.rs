@@ -5,7 +5,7 @@ mod plain;
 use inputs::Timed;
 use mbyasoka::{Pattern as Engine, Run, COORDINATES, SIZE};
 use plain::mesh::{read_mesh, write_mesh};
-use plain::off_export::export_off;
+use plain::off_export::{export_off, export_off_keeping};
 use plain::off_import::import_off;
 use plain::pattern::{check, check_nested, Pattern as Plain};
 use plain::script::{apply_operator, euler, run_script};
@@ -121,7 +121,10 @@ fn in_and_out(size: &str, text: &[u8], calls: u32) {
     row(&format!("import, {size}"), calls, import, import_plain);
     assert!(same(&e, &p) && ce == cp);
     assert_eq!((e.export_off(&ce, oe), export_off(&p, &cp, op)), (Ok(text.len()), (text.len(), 0)));
+    assert_eq!((export_off_keeping(&p, &cp, op), &op[..text.len()]), ((text.len(), 0), text));
     row(&format!("export, {size}"), calls, || black_box(&e).export_off(&ce, oe), || export_off(black_box(&p), &cp, op));
+    let keeping = format!("export, {size}, against all rings kept on the stack");
+    row(&keeping, calls, || black_box(&e).export_off(&ce, oe), || export_off_keeping(black_box(&p), &cp, op));
     assert!(out[0] == text && out[1] == text);
 }
 

@@ -1,4 +1,4 @@
-//! Exporting a pattern as an OFF text.
+//! Exporting a pattern as an OFF text: with every frame within 1 KiB, as the engine has to, and with all rings kept on the stack.
 use super::off_import::LIMIT;
 use super::pattern::{check, column, Pattern, SIDE};
 use super::Refused;
@@ -77,14 +77,19 @@ fn digits(mut x: u32) -> usize {
     n
 }
 
-fn text_length(p: &Pattern, coordinates: &[i32], rings: &Rings) -> usize {
-    let two = |x: usize| 1 + (x >= 10) as usize;
+fn two(x: usize) -> usize {
+    1 + (x >= 10) as usize
+}
+
+/// All but the lines of the panels.
+fn front_length(p: &Pattern, coordinates: &[i32]) -> usize {
     let counts: usize = p.n[..3].iter().map(|x| two(*x as usize) + 1).sum();
     let points: usize = coordinates.iter().map(|x| (*x < 0) as usize + digits(x.unsigned_abs()) + 1).sum();
-    let line = |(length, ring): &(usize, [u8; SIDE])| {
-        two(*length) + 1 + 2 * length + ring[..*length].iter().map(|x| (*x >= 10) as usize).sum::<usize>()
-    };
-    4 + counts + points + rings[..p.n[2] as usize].iter().map(line).sum::<usize>()
+    4 + counts + points
+}
+
+fn ring_length(ring: &[u8]) -> usize {
+    two(ring.len()) + 1 + 2 * ring.len() + ring.iter().map(|x| (*x >= 10) as usize).sum::<usize>()
 }
 
 fn put(out: &mut [u8], at: &mut usize, x: i32, end: u8) {
@@ -125,7 +130,8 @@ fn put_line(out: &mut [u8], at: &mut usize, numbers: impl Iterator<Item = u8>) {
     *at += n;
 }
 
-fn write(p: &Pattern, coordinates: &[i32], rings: &Rings, out: &mut [u8]) {
+/// All but the lines of the panels; where these begin.
+fn write_front(p: &Pattern, coordinates: &[i32], out: &mut [u8]) -> usize {
     out[..4].copy_from_slice(b"OFF\n");
     let mut at = 4;
     put_line(out, &mut at, [p.n[0], p.n[2], p.n[1]].into_iter());
@@ -134,12 +140,15 @@ fn write(p: &Pattern, coordinates: &[i32], rings: &Rings, out: &mut [u8]) {
         put(out, &mut at, point[1], b' ');
         put(out, &mut at, point[2], b'\n');
     }
-    for (length, ring) in &rings[..p.n[2] as usize] {
-        put_line(out, &mut at, std::iter::once(*length as u8).chain(ring[..*length].iter().copied()));
-    }
+    at
 }
 
-fn exported(p: &Pattern, coordinates: &[i32], out: &mut [u8]) -> Result<usize, Refused> {
+fn write_ring(ring: &[u8], out: &mut [u8], at: &mut usize) {
+    put_line(out, at, std::iter::once(ring.len() as u8).chain(ring.iter().copied()));
+}
+
+/// The coordinates of the corners that there are, if pattern and coordinates can be exported at all.
+fn own<'a>(p: &Pattern, coordinates: &'a [i32]) -> Result<&'a [i32], Refused> {
     if coordinates.len() != 3 * SIDE {
         return Err(Refused(1));
     }
@@ -150,19 +159,73 @@ fn exported(p: &Pattern, coordinates: &[i32], out: &mut [u8]) -> Result<usize, R
     if !own.iter().fold(true, |ok, x| ok & (-LIMIT..=LIMIT).contains(x)) {
         return Err(Refused(18));
     }
+    Ok(own)
+}
+
+fn exported_keeping(p: &Pattern, coordinates: &[i32], out: &mut [u8]) -> Result<usize, Refused> {
+    let own = own(p, coordinates)?;
     let rings = rings(p).ok_or(Refused(19))?;
-    let length = text_length(p, own, &rings);
+    let kept = || rings[..p.n[2] as usize].iter().map(|(length, ring)| &ring[..*length]);
+    let length = front_length(p, own) + kept().map(ring_length).sum::<usize>();
     if out.len() < length {
         return Err(Refused(15));
     }
-    write(p, own, &rings, &mut out[..length]);
+    let mut at = write_front(p, own, out);
+    kept().for_each(|ring| write_ring(ring, out, &mut at));
     Ok(length)
+}
+
+/// Tail and head of each seam, if no two have the same ends, found without a table.
+fn ends_in_pairs(p: &Pattern) -> Option<[(u8, u8); SIDE]> {
+    let mut ends = [(0, 0); SIDE];
+    for j in 0..p.n[1] as usize {
+        let c = column(&p.m[0], j);
+        let at = |z: i8| c.iter().position(|x| *x == z).unwrap() as u8;
+        let e = (at(-1), at(1));
+        if ends[..j].iter().any(|d| *d == e || *d == (e.1, e.0)) {
+            return None;
+        }
+        ends[j] = e;
+    }
+    Some(ends)
+}
+
+fn exported(p: &Pattern, coordinates: &[i32], out: &mut [u8]) -> Result<usize, Refused> {
+    let own = own(p, coordinates)?;
+    if p.n[3] != 0 || has_loose_seam(p) {
+        return Err(Refused(19));
+    }
+    let ends = ends_in_pairs(p).ok_or(Refused(19))?;
+    let (ends, mut corners) = (&ends[..p.n[1] as usize], [0; SIDE]);
+    let mut length = front_length(p, own);
+    for j in 0..p.n[2] as usize {
+        let n = ring(column(&p.m[1], j), ends, &mut corners).ok_or(Refused(19))?;
+        length += ring_length(&corners[..n]);
+    }
+    if out.len() < length {
+        return Err(Refused(15));
+    }
+    let mut at = write_front(p, own, out);
+    for j in 0..p.n[2] as usize {
+        let n = ring(column(&p.m[1], j), ends, &mut corners).ok_or(Refused(19))?;
+        write_ring(&corners[..n], out, &mut at);
+    }
+    Ok(length)
+}
+
+fn answer(result: Result<usize, Refused>) -> (usize, u8) {
+    match result {
+        Ok(written) => (written, 0),
+        Err(Refused(r)) => (0, r),
+    }
 }
 
 /// Bytes written and refusal.
 pub fn export_off(p: &Pattern, coordinates: &[i32], out: &mut [u8]) -> (usize, u8) {
-    match exported(p, coordinates, out) {
-        Ok(written) => (written, 0),
-        Err(Refused(r)) => (0, r),
-    }
+    answer(exported(p, coordinates, out))
+}
+
+/// The same, with 10 KiB of stack for rings and ends.
+pub fn export_off_keeping(p: &Pattern, coordinates: &[i32], out: &mut [u8]) -> (usize, u8) {
+    answer(exported_keeping(p, coordinates, out))
 }
