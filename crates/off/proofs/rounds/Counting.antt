@@ -6,9 +6,13 @@ use Prim.Native.Nat.{ℕ, zero, suc, _<_, _≤_}
 use native.Mathlib.Omega.{arith}
 use borrow.Author.Tests.{ne-eqb, eqb-true, eqb-false, not-true, not-false}
 use lib.Dec.{eqb}
+use lib.ListN.{length}
 use Rattle.maths.specs.Tests.{all, count}
-use Rattle.maths.proofs.Cases.{eq-or, bool-or, by-bool, eqb-same, and-left, and-right}
+use Rattle.maths.proofs.Cases.{lt-or, eq-or, bool-or, by-bool, eqb-same, and-left, and-right}
 use Rattle.maths.proofs.Tests.{all-not, all-false, count-same, count-zero, count-le}
+use Rattle.off.specs.Plain.{Ring}
+use Rattle.off.specs.Rings.{cornerAt, cornersBelow, distinct}
+use Rattle.off.proofs.sewing.RingSides.{corner-below, distinct-apart}
 
 -- the test p, which t does not pass
 but : ℕ → (ℕ → Bool) → ℕ → Bool
@@ -60,3 +64,9 @@ module _ (m : ℕ) where
       let s = all-false n (other i) (not-true (all n (other i)) e) in
       (s .0, s .1, eqb-true (f (s .0)) i (not-false (eqb (f (s .0)) i) (s .2)))) in
       omega (arith, is, count-le m p)
+
+-- no more than 96 corners below 96 are distinct, so the bound in `isRing` takes no ring away
+pub ring-most : (r : Ring) → cornersBelow 96 r ≡ true → distinct r ≡ true → length r ≤ 96
+ring-most r low d = few-apart 96 (length r) (cornerAt r) (corner-below r low) (λ k l h i f. lt-or k l
+    (λ q. distinct-apart r d k l q i)
+    (λ q e. distinct-apart r d l k (omega arith) h (sym e)))

@@ -62,6 +62,13 @@ module _ (r : Ring) where
     pub round : 0 < length r → sum (length r) (λ l. f (nextAt r l) -ℤ f (cornerAt r l)) ≡ pos 0
     round h = round-from (length r) refl h
 
+  -- no corner comes again
+  pub distinct-apart : distinct r ≡ true → (k l : ℕ) → k < l → l < length r → cornerAt r k ≢ cornerAt r l
+  unfolding distinct
+  distinct-apart d k l h i =
+      let row : ℕ → ℕ → Bool = λ l k. not (eqb (cornerAt r k) (cornerAt r l)) in
+      eqb-false (cornerAt r k) (cornerAt r l) (not-true _ (all-at l (row l) (all-at (length r) (λ l. all l (row l)) d l i) k h))
+
   -- a ring
   module _ (t : isRing r ≡ true) where
     pub ring-long : 3 ≤ length r
@@ -73,11 +80,8 @@ module _ (r : Ring) where
     ring-short = leb-true (length r) 96 (and-right (leb 3 (length r)) _ (and-left _ (distinct r) t))
 
     before-apart : (k l : ℕ) → k < l → l < length r → cornerAt r k ≢ cornerAt r l
-    unfolding isRing distinct
-    before-apart k l h i =
-        let row : ℕ → ℕ → Bool = λ l k. not (eqb (cornerAt r k) (cornerAt r l)) in
-        let d = and-right (leb 3 (length r) && leb (length r) 96) (distinct r) t in
-        eqb-false (cornerAt r k) (cornerAt r l) (not-true _ (all-at l (row l) (all-at (length r) (λ l. all l (row l)) d l i) k h))
+    unfolding isRing
+    before-apart = distinct-apart (and-right (leb 3 (length r) && leb (length r) 96) (distinct r) t)
 
     pub corners-apart : (k l : ℕ) → k < length r → l < length r → cornerAt r k ≡ cornerAt r l → k ≡ l
     corners-apart k l h i e = lt-or k l
