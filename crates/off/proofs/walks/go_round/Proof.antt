@@ -1,10 +1,9 @@
 -- `off::walks::go_round` meets its contract: the walk goes by the list of the panel's seams, from the lowest corner that it leaves.
-use mathlib.Core.Path.{refl, sym, _∙_}
-use Prim.Native.Nat.{ℕ, _<_, _≤_}
+use mathlib.Core.Path.{refl}
+use Prim.Native.Nat.{ℕ}
 use native.Mathlib.Omega.{arith}
 use borrow.Author.Needs.{needs}
 use Rattle.maths.specs.Tables.{tableFrom, column}
-use Rattle.maths.proofs.Tests.{count-le}
 use Rattle.off.specs.Walking.{endsBy, nextBy}
 use Rattle.off.proofs.walks.NextCorners.{table-long}
 use Rattle.off.proofs.walks.Walked.{StepsLow, steps-of, next-byte-low, start-inside, round-none, round-walked}

@@ -1,6 +1,6 @@
 -- `off::walks::take_ring` meets its contract: each answer is one test of `closesUp`.
-use mathlib.Core.Path.{_≡_, sym, _∙_}
-use Prim.Native.Nat.{ℕ, _≤_}
+use mathlib.Core.Path.{sym, _∙_}
+use Prim.Native.Nat.{_≤_}
 use borrow.Author.Needs.{needs}
 use borrow.Author.Tests.{not-true, not-false}
 use Rattle.maths.specs.Tables.{column}
