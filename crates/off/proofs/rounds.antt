@@ -3,6 +3,7 @@ pub mod Counting
 pub mod Turning
 pub mod Followed
 pub mod PanelRound
+pub mod GoesRound
 pub mod RingsRound
 pub mod SewnAgain
 pub mod RoundTrip

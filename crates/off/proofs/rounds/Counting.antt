@@ -1,7 +1,7 @@
 -- How many pass a test, where those that pass are listed, each once.
 use mathlib.Core.Path.{_≡_, refl, sym, ap, _∙_}
 use mathlib.Core.Logic.{_≢_}
-use mathlib.Core.Bool.{Bool, true, false, not, _&&_}
+use mathlib.Core.Bool.{Bool, true, false, not, cond, _&&_}
 use Prim.Native.Nat.{ℕ, zero, suc, _<_, _≤_}
 use native.Mathlib.Omega.{arith}
 use borrow.Author.Tests.{ne-eqb, eqb-true, eqb-false, not-true, not-false}
@@ -9,7 +9,7 @@ use lib.Dec.{eqb}
 use lib.ListN.{length}
 use Rattle.maths.specs.Tests.{all, count}
 use Rattle.maths.proofs.Cases.{lt-or, eq-or, bool-or, by-bool, eqb-same, and-left, and-right}
-use Rattle.maths.proofs.Tests.{all-not, all-false, count-same, count-zero, count-le}
+use Rattle.maths.proofs.Tests.{all-at, all-not, all-false, count-same, count-zero, count-le}
 use Rattle.off.specs.Plain.{Ring}
 use Rattle.off.specs.Rings.{cornerAt, cornersBelow, distinct}
 use Rattle.off.proofs.sewing.RingSides.{corner-below, distinct-apart}
@@ -52,6 +52,48 @@ module _ (m : ℕ) where
       let passes = but-says (f n) p i e in
       let s = listed i (passes .0) in
       eq-or (s .0) n (λ q. absurd (passes .1 (sym (s .2) ∙ ap f q))) (λ q. (s .0, omega (arith, s .1), s .2))))
+
+  -- different numbers that pass are no more than all that pass
+  count-least : (n : ℕ) (f : ℕ → ℕ) (p : ℕ → Bool) → ((l : ℕ) → l < n → f l < m) → ((k l : ℕ) → k < n → l < n → k ≢ l → f k ≢ f l) →
+      ((l : ℕ) → l < n → p (f l) ≡ true) → n ≤ count m p
+  count-least zero f p low apart in-test = omega arith
+  count-least (suc n) f p low apart in-test =
+      let fewer = count-least n f (but (f n) p)
+      (λ l h. low l (omega arith))
+      (λ k l h i. apart k l (omega arith) (omega arith))
+      (λ l h. but-other (f n) p (f l) (apart l n (omega arith) (omega arith) (omega arith)) ∙ in-test l (omega arith)) in
+      omega (arith, fewer, count-but m (f n) p (low n (omega arith)) (in-test n (omega arith)))
+
+  -- where they are as many, they are all
+  module _ (n : ℕ) (f : ℕ → ℕ) (p : ℕ → Bool) (low : (l : ℕ) → l < n → f l < m) (apart : (k l : ℕ) → k < n → l < n → k ≢ l → f k ≢ f l)
+      (in-test : (l : ℕ) → l < n → p (f l) ≡ true) where
+    -- i after them
+    with : ℕ → ℕ → ℕ
+    with i l = cond (eqb l n) i (f l)
+
+    with-last : (i : ℕ) → with i n ≡ i
+    unfolding with
+    with-last i = rw (eqb-same n)
+
+    with-other : (i l : ℕ) → l ≢ n → with i l ≡ f l
+    unfolding with
+    with-other i l h = rw (ne-eqb l n h)
+
+    one-more : (i : ℕ) → i < m → p i ≡ true → ((l : ℕ) → l < n → f l ≢ i) → suc n ≤ count m p
+    one-more i h t off = count-least (suc n) (with i) p
+        (λ l k. eq-or l n (λ e. rw (e, with-last i) h) (λ e. rw (with-other i l e) (low l (omega arith))))
+        (λ k l a b d. eq-or k n
+        (λ e. eq-or l n (λ g. absurd (d (e ∙ sym g))) (λ g. rw (e, with-last i, with-other i l g) (λ q. off l (omega arith) (sym q))))
+        (λ e. eq-or l n (λ g. rw (g, with-last i, with-other i k e) (off k (omega arith)))
+        (λ g. rw (with-other i k e, with-other i l g) (apart k l (omega arith) (omega arith) d))))
+        (λ l k. eq-or l n (λ e. rw (e, with-last i) t) (λ e. rw (with-other i l e) (in-test l (omega arith))))
+
+    pub all-listed : count m p ≡ n → (i : ℕ) → i < m → p i ≡ true → (l : ℕ) × (l < n) × (f l ≡ i)
+    all-listed e i h t =
+        let other : ℕ → Bool = λ l. not (eqb (f l) i) in
+        bool-or (all n other)
+        (λ q. absurd (omega (arith, one-more i h t (λ l k. eqb-false (f l) i (not-true (eqb (f l) i) (all-at n other q l k))))))
+        (λ q. let s = all-false n other q in (s .0, s .1, eqb-true (f (s .0)) i (not-false (eqb (f (s .0)) i) (s .2))))
 
   -- different numbers below m are at most m
   pub few-apart : (n : ℕ) (f : ℕ → ℕ) → ((l : ℕ) → l < n → f l < m) → ((k l : ℕ) → k < n → l < n → k ≢ l → f k ≢ f l) → n ≤ m
