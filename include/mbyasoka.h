@@ -31,7 +31,7 @@ extern "C" {
 #endif
 
 /* Raised by one with each change that a caller can see: of a call and its arguments, the struct, an answer, a refusal, or the bytes. */
-#define MBYASOKA_VERSION 3
+#define MBYASOKA_VERSION 4
 
 enum {
     MBYASOKA_SIDE = 96,                 /* most cells of a dimension; coefficients of a chain */
@@ -63,7 +63,8 @@ enum {
     MBYASOKA_WRONG_PART = 9,
     MBYASOKA_WRONG_DIVIDER = 10,
     MBYASOKA_NOT_BETWEEN = 11,
-    MBYASOKA_WRONG_SUM = 12,
+    MBYASOKA_WRONG_SUM = 12,     /* no call answers it since version 4: where the two cells of a merge share one face alone, their sum is
+                                    always a boundary */
     MBYASOKA_STALE = 13,         /* the script's base counts differ from the pattern's */
     MBYASOKA_BYTES_LEFT = 14,
     MBYASOKA_SHORT_OUTPUT = 15,
@@ -71,7 +72,8 @@ enum {
     MBYASOKA_NOT_CARRIED = 17,
     MBYASOKA_WRONG_OFF = 18,     /* text that is no plain OFF text or goes on after its end, a corner or panel count over 96, or a
                                     coordinate out of range */
-    MBYASOKA_NOT_PLAIN = 19      /* a block, a seam in no panel, two seams with the same two ends, or a panel that is not one ring */
+    MBYASOKA_NOT_PLAIN = 19,     /* a block, a seam in no panel, two seams with the same two ends, or a panel that is not one ring */
+    MBYASOKA_SHARED_FACE = 20
 };
 
 /* What an answer means, for people to read; of any number. Where the answer has a place, " at byte " and the place may follow. */
@@ -98,6 +100,7 @@ static inline const char *mbyasoka_refusal_text(uint8_t refusal)
     case MBYASOKA_NOT_CARRIED: return "no chain is carried through a kill or a merge";
     case MBYASOKA_WRONG_OFF: return "the text does not have the form of a plain OFF text, or a coordinate is out of range";
     case MBYASOKA_NOT_PLAIN: return "no OFF text has a block, a loose seam, two seams with the same ends, or a panel that is not one ring";
+    case MBYASOKA_SHARED_FACE: return "the two cells of a merge share another face, which would be left loose";
     default: return "no answer of this version has this number";
     }
 }
@@ -132,18 +135,18 @@ uint8_t mbyasoka_euler(const uint8_t counts[4],
                        int16_t *number);
 
 /* One operator, of which these are the bytes. In and out: counts and matrices. Out: the place. Refusals: 1, 2, the first of 3 and 4 in
- * byte order, 14, 5, 6, 7 to 12; a refusal changes no count and no byte. */
+ * byte order, 14, 5, 6, 7 to 11 or 20; a refusal changes no count and no byte. */
 uint8_t mbyasoka_apply_operator(uint8_t counts[4],
                                 int8_t *m1, size_t m1_length, int8_t *m2, size_t m2_length, int8_t *m3, size_t m3_length,
                                 const uint8_t *bytes, size_t bytes_length, uint32_t *place);
 
 /* A script. In and out: counts and matrices. Out: how many operators were accepted, and the place. Refusals: 1, 2, the first of 3 and 4
  * in byte order, 14, 13: then nothing runs, *ran is 0 and no count and no byte changes. Otherwise operators run in order up to the first
- * that is refused, by 5, 6 or 7 to 12; that one changes nothing.
+ * that is refused, by 5, 6, 7 to 11 or 20; that one changes nothing.
  *
- * WARNING: after a refusal by 5 to 12 the first *ran operators HAVE CHANGED the pattern, and nothing takes them back. What is left is a
- * good pattern, but neither the one lent nor the one meant. Whoever wants all or nothing keeps a copy of the counts and the matrices, or
- * writes the mesh, before the call. */
+ * WARNING: after a refusal by 5 to 11 or 20 the first *ran operators HAVE CHANGED the pattern, and nothing takes them back. What is
+ * left is a good pattern, but neither the one lent nor the one meant. Whoever wants all or nothing keeps a copy of the counts and the
+ * matrices, or writes the mesh, before the call. */
 uint8_t mbyasoka_run_script(uint8_t counts[4],
                             int8_t *m1, size_t m1_length, int8_t *m2, size_t m2_length, int8_t *m3, size_t m3_length,
                             const uint8_t *bytes, size_t bytes_length, uint16_t *ran, uint32_t *place);
@@ -224,7 +227,7 @@ static inline uint8_t mbyasoka_pattern_apply(mbyasoka_pattern *p, const uint8_t 
     return mbyasoka_apply_operator(MBYASOKA_LENT_(p), bytes, bytes_length, place);
 }
 
-/* WARNING: as at mbyasoka_run_script, a refusal by 5 to 12 HAS CHANGED the pattern. All or nothing: copy it before, by `=`. */
+/* WARNING: as at mbyasoka_run_script, a refusal by 5 to 11 or 20 HAS CHANGED the pattern. All or nothing: copy it before, by `=`. */
 static inline uint8_t mbyasoka_pattern_run(mbyasoka_pattern *p, const uint8_t *bytes, size_t bytes_length, uint16_t *ran,
                                            uint32_t *place)
 {

@@ -164,6 +164,7 @@ impl Comparison {
         if let Some(&code) = bytes.first() {
             self.coverage.operator(code, first.0);
         }
+        self.coverage.merges.answer(pattern, bytes, first.0);
         Pattern { counts: first.1, matrices: matrices.map(|matrix| matrix.left().to_vec()) }
     }
 

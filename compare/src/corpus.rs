@@ -20,6 +20,7 @@ fn all_cases() -> io::Result<Vec<Case>> {
         return Err(fault("the table of cases is not what is printed"));
     }
     let mut generated = inputs::mixed(&mut Random::new(11), MIXED, 1_500);
+    generated.extend(inputs::merges());
     generated.extend(inputs::few_at_limits());
     all.extend(generated.into_iter().map(Case::by_second));
     Ok(all)

@@ -1,6 +1,8 @@
 //! Which numbers and places were answered, which operators were accepted or refused, which chains were accepted, and which damages found.
 
 use crate::damaged::WAYS;
+use crate::meanings::{carries, meanings, name, of_meaning, NUMBERS};
+use crate::merges::Merges;
 use crate::off_coverage::OffCoverage;
 use crate::operators::CODES;
 use crate::patterns::Placed;
@@ -23,43 +25,19 @@ pub enum Call {
     ExportOff,
 }
 
-/// Each call's name and the numbers that it may answer. All of them must be reached.
+/// Each call's name and the numbers that it may answer. All of them must be reached. 12 is in no list, as `meanings` says.
 const CALLS: [(&str, &[usize]); 10] = [
     ("check", &[0, 1, 2]),
     ("read_mesh", &[0, 1, 3, 4, 5, 7]),
     ("write_mesh", &[0, 1, 2, 15]),
     ("euler", &[0, 1, 2]),
-    ("apply_operator", &[0, 1, 2, 3, 4, 5, 6, 7, 8, 9, 10, 11, 12, 14]),
-    ("run_script", &[0, 1, 2, 3, 4, 5, 6, 7, 8, 9, 10, 11, 12, 13, 14]),
+    ("apply_operator", &[0, 1, 2, 3, 4, 5, 6, 7, 8, 9, 10, 11, 14, 20]),
+    ("run_script", &[0, 1, 2, 3, 4, 5, 6, 7, 8, 9, 10, 11, 13, 14, 20]),
     ("boundary", &[0, 1, 2, 4, 16]),
     ("carry", &[0, 1, 2, 3, 4, 5, 6, 7, 9, 10, 14, 16, 17]),
     ("import_off", &[0, 1, 5, 6, 7, 18]),
     ("export_off", &[0, 1, 2, 15, 18, 19]),
 ];
-
-/// The numbers that an operator of good form may be answered on a good pattern.
-fn meanings(code: u8) -> &'static [usize] {
-    match code {
-        0x10 => &[0, 6],
-        0x11..=0x13 => &[0, 5, 6, 7],
-        0x23 => &[0, 5],
-        0x20..=0x22 => &[0, 5, 8],
-        0x31 => &[0, 5, 6],
-        0x32 | 0x33 => &[0, 5, 6, 9, 10],
-        0x40..=0x42 => &[0, 5, 11, 12],
-        _ => &[0, 5],
-    }
-}
-
-/// The operators that carry chains.
-fn carries(code: u8) -> bool {
-    matches!(code >> 4, 1 | 3 | 5)
-}
-
-fn name(code: u8) -> String {
-    let kind = ["make", "kill", "split", "merge", "flip"][usize::from(code >> 4) - 1];
-    format!("{kind} {}", code & 15)
-}
 
 pub fn call_name(call: Call) -> &'static str {
     CALLS[call as usize].0
@@ -67,8 +45,9 @@ pub fn call_name(call: Call) -> &'static str {
 
 #[derive(Default)]
 pub struct Coverage {
-    answered: [[u64; 20]; 10],
-    meant: [[u64; 20]; 17],
+    answered: [[u64; NUMBERS]; 10],
+    meant: [[u64; NUMBERS]; 17],
+    pub merges: Merges,
     carried: [[u64; 4]; 17],
     bounded: [u64; 4],
     damaged: [[u64; 3]; WAYS.len()],
@@ -99,7 +78,7 @@ impl Coverage {
     /// The answer to one operator, counted only where its meaning was judged.
     pub fn operator(&mut self, code: u8, number: u8) {
         let place = CODES.iter().position(|&own| own == code);
-        if let (Some(place), 0 | 5..=12) = (place, number) {
+        if let (Some(place), true) = (place, number == 0 || of_meaning(number)) {
             self.meant[place][usize::from(number)] += 1;
         }
     }
@@ -111,7 +90,7 @@ impl Coverage {
             self.operator(rest[0], 0);
             rest = &rest[length(rest)..];
         }
-        if let (5..=12, Some(&code)) = (number, rest.first()) {
+        if let (true, Some(&code)) = (of_meaning(number), rest.first()) {
             self.operator(code, number);
         }
     }
@@ -161,7 +140,8 @@ impl Coverage {
     fn counts(&mut self) -> impl Iterator<Item = &mut u64> {
         let numbers = self.answered.iter_mut().chain(&mut self.meant).flatten();
         let chains = self.carried.iter_mut().chain([&mut self.bounded]).flatten();
-        numbers.chain(chains).chain(self.damaged.iter_mut().flatten()).chain(self.places.counts()).chain(self.off.counts())
+        let damaged = self.damaged.iter_mut().flatten();
+        numbers.chain(self.merges.counts()).chain(chains).chain(damaged).chain(self.places.counts()).chain(self.off.counts())
     }
 
     pub fn add(&mut self, mut other: Coverage) {
@@ -180,8 +160,9 @@ impl Coverage {
         let bounded = row("boundary", &[1, 2, 3], &self.bounded);
         let damaged = WAYS.iter().zip(&self.damaged).map(|(way, counts)| row(way, &[2], counts));
         let tables = [
-            table("call", "answered", 0..20, calls.collect()),
-            table("operator", "answered", (0..1).chain(5..13), operators.collect()),
+            table("call", "answered", 0..NUMBERS, calls.collect()),
+            table("operator", "answered", (0..1).chain(5..13).chain(20..21), operators.collect()),
+            table("two cells", "answered", [0, 11, 12, 20].into_iter(), self.merges.rows()),
             table("chain of dim.", "accepted a chain of dimension", 0..4, std::iter::once(bounded).chain(carried).collect()),
             table("damage", "met refusal", 2..3, damaged.collect()),
             table("place", "was the place of", [3, 4, 14].into_iter(), self.places.rows()),
@@ -206,7 +187,7 @@ fn length(bytes: &[u8]) -> usize {
 #[cfg(test)]
 mod tests {
     use super::*;
-    use crate::{off_coverage, places};
+    use crate::{merges, off_coverage, places};
     use second::Field;
 
     fn missed(coverage: &Coverage, fault: &str) -> bool {
@@ -219,7 +200,8 @@ mod tests {
         let numbers = CALLS.iter().map(|call| call.1.len()).chain(CODES.map(|code| meanings(code).len()));
         let carried = 4 * CODES.iter().filter(|&&code| carries(code)).count();
         let placed: usize = places::CALLS.map(places::kinds).iter().sum();
-        assert_eq!(faults.len(), numbers.sum::<usize>() + carried + 3 + WAYS.len() + placed + off_coverage::KINDS);
+        let others = WAYS.len() + placed + merges::ROWS + off_coverage::KINDS;
+        assert_eq!(faults.len(), numbers.sum::<usize>() + carried + 3 + others);
     }
 
     #[test]
@@ -227,9 +209,22 @@ mod tests {
         let mut coverage = Coverage::default();
         coverage.answer(Call::Check, 3);
         coverage.answer(Call::Check, 20);
+        coverage.answer(Call::Check, 21);
         coverage.operator(0x51, 6);
-        for fault in ["check answered 3, 1 times", "check answered 20", "flip 1 answered 6, 1 times"] {
+        for fault in ["check answered 3, 1 times", "check answered 20, 1 times", "check answered 21", "flip 1 answered 6, 1 times"] {
             assert!(missed(&coverage, fault), "{fault}");
+        }
+    }
+
+    #[test]
+    fn a_merge_is_never_answered_12() {
+        let mut coverage = Coverage::default();
+        coverage.answer(Call::ApplyOperator, 12);
+        coverage.answer(Call::RunScript, 12);
+        coverage.operator(0x40, 12);
+        coverage.script(&[4, 2, 2, 0, 0, 1, 0, 0x41, 0], 0, 12);
+        for who in ["apply_operator", "run_script", "merge 0", "merge 1"] {
+            assert!(missed(&coverage, &format!("{who} answered 12, 1 times")), "{who}");
         }
     }
 

@@ -1,7 +1,8 @@
 //! Whole inputs for the program `pattern`: a mesh followed directly by a script.
 
 use crate::damaged::{self, variants};
-use crate::meshes::{self, parallel, simplex};
+use crate::meshes::{self, band, grid, parallel, pile, simplex};
+use crate::operators::sharing;
 use crate::patterns::Pattern;
 use crate::random::Random;
 use crate::scripts::{self, of_length, script, OPERATOR_LIMIT, SCRIPT_LIMIT};
@@ -33,6 +34,17 @@ fn one(random: &mut Random, mesh: &[u8], kind: usize) -> Vec<u8> {
         }
     }
     [mesh, script].concat()
+}
+
+/// Merges of two cells that share more than one face, at every dimension: as they are, and after they were made so.
+pub fn merges() -> Vec<Vec<u8>> {
+    let mut random = Random::new(3);
+    let lone = [(vec![2, 2, 0, 1, 1, 0, 0, 0], [0x40, 1]), (band(false), [0x41, 4]), (band(true), [0x41, 5]), (pile(), [0x42, 0])];
+    let made = [(parallel([2, 1, 0, 0], 0), 0), (grid([2, 2, 0]), 1), (grid([2, 1, 1]), 2)];
+    let counts = |mesh: &[u8]| Pattern::from_mesh(mesh).counts;
+    let lone = lone.map(|(mesh, merge)| [script(counts(&mesh), &[merge.to_vec()]), mesh]);
+    let made = made.map(|(mesh, dim)| [script(counts(&mesh), &sharing(&mut random, &Pattern::from_mesh(&mesh), dim)), mesh]);
+    lone.into_iter().chain(made).map(|[script, mesh]| [mesh, script].concat()).collect()
 }
 
 /// An input for each kind of fault that the form of a mesh or of a script can have.
@@ -105,5 +117,13 @@ mod tests {
     #[test]
     fn the_form_is_at_fault_in_every_way() {
         assert_eq!(faulty().len(), kinds(Call::ReadMesh) + kinds(Call::RunScript));
+    }
+
+    #[test]
+    fn each_merge_is_of_cells_that_share_others() {
+        for (input, ran) in merges().iter().zip([0, 0, 0, 0, 1, 1, 1]) {
+            let printed = second::printed(input);
+            assert!(printed.starts_with(&format!("ran {ran} refusal 20\n")), "{printed}");
+        }
     }
 }

@@ -13,6 +13,8 @@ mod engine;
 mod inputs;
 mod lending;
 mod limits;
+mod meanings;
+mod merges;
 mod meshes;
 mod off_coverage;
 mod off_faults;

@@ -58,6 +58,23 @@ pub fn ring(n: u8, panels: u8) -> Vec<u8> {
     mesh(n.into(), &seams, [&sewn, &blocks])
 }
 
+/// A band of two panels, sewn to each other along seams 4 and 5. Seams 0 and 1 are its lower edge, 2 and 3 its upper one; where the
+/// second panel is twisted, that is one edge, and both panels have seam 4 with one sign.
+pub fn band(twisted: bool) -> Vec<u8> {
+    let (low, high, sign) = if twisted { (2, 0, -1) } else { (0, 2, 1) };
+    let seams = [(0, 1), (1, low), (2, 3), (3, high), (0, 2), (1, 3)];
+    let panels = vec![vec![(0, 1), (2, -1), (4, -1), (5, 1)], vec![(1, 1), (3, -1), (4, sign), (5, -1)]];
+    mesh(4, &seams, [&panels, &Vec::new()])
+}
+
+/// Four panels with the same two seams, one on another. The first two are a block; in another block of all four the second panel has the
+/// same sign, the first the other one.
+pub fn pile() -> Vec<u8> {
+    let panels = vec![vec![(0, 1), (1, -1)]; 4];
+    let blocks = vec![vec![(0, 1), (1, -1)], vec![(0, -1), (1, -1), (2, 1), (3, 1)]];
+    mesh(2, &[(0, 1), (0, 1)], [&panels, &blocks])
+}
+
 /// All corners, pairs, triples and fours of n corners: the triangle is `simplex(3)`, the
 /// tetrahedron with its block `simplex(4)`.
 pub fn simplex(n: u8) -> Vec<u8> {
@@ -119,8 +136,8 @@ fn sides(named: &[Vec<([u8; 3], u8)>; 4], dim: usize, (at, directions): ([u8; 3]
 pub fn all() -> Vec<Vec<u8>> {
     let mut meshes = vec![vec![0; 4], vec![1, 0, 0, 0]];
     meshes.extend([parallel([2, 1, 0, 0], 0), parallel([2, 2, 1, 0], 2)]);
-    // Two seams there and back, and two panels that cancel one another: merges refused by 12.
-    meshes.extend([vec![2, 2, 0, 1, 1, 0, 0, 0], parallel([2; 4], 2)]);
+    // Two seams there and back, two panels and two blocks that cancel one another, bands and a pile: merges refused by 20.
+    meshes.extend([vec![2, 2, 0, 1, 1, 0, 0, 0], parallel([2; 4], 2), band(false), band(true), pile()]);
     meshes.extend((3..=8).map(simplex));
     let grids = [[1, 1, 1], [2, 1, 1], [2, 2, 2], [3, 2, 2], [5, 1, 1], [3, 3, 0], [6, 6, 0]];
     meshes.extend(grids.map(grid));

@@ -1,6 +1,7 @@
 //! What the two OFF calls met: each kind of fault of a text's form, each kind of line that is no ring, each obstacle of a pattern,
 //! coordinates beyond their limit, and ways there and back.
 
+use crate::meanings::NUMBERS;
 use crate::off_faults::LINES;
 use crate::off_texts::COORDINATE_LIMIT;
 use crate::patterns::Placed;
@@ -29,7 +30,7 @@ const OBSTACLES: [(OffObstacle, &str); 4] = [
 /// Coordinates beyond their limit, of a corner and of none; texts that came back; and those of patterns that a script changed.
 const OTHERS: [(&str, usize); 4] = [("beyond, of a corner", 18), ("beyond, of none", 0), ("way there and back", 0), ("after a script", 0)];
 
-type Counts = [u64; 20];
+type Counts = [u64; NUMBERS];
 
 #[derive(Default)]
 pub struct OffCoverage {

@@ -33,29 +33,58 @@ pub fn fitting(random: &mut Random, pattern: &Pattern, code: u8) -> Vec<u8> {
         }
         0x12 | 0x13 => [vec![code], listed(&made(random, pattern, dim))].concat(),
         0x20..=0x22 => vec![code, likely(random, pattern, dim, |users| users.is_empty())],
-        0x32 | 0x33 => {
-            let part = part(random, pattern, dim, cell);
-            [vec![code, cell as u8], numbers(part)].concat()
-        }
-        0x40..=0x42 => vec![code, likely(random, pattern, dim, between_two)],
+        0x31..=0x33 => split(random, pattern, dim, cell),
+        0x40..=0x42 => vec![code, likely(random, pattern, dim, |users| merging(pattern, dim, users, false))],
         _ => vec![code, cell as u8],
     }
 }
 
-fn between_two(users: &[Face]) -> bool {
+/// The bytes of a split of this cell.
+pub fn split(random: &mut Random, pattern: &Pattern, dim: usize, cell: usize) -> Vec<u8> {
+    let head = vec![0x30 + dim as u8, cell as u8];
+    match dim {
+        1 => head,
+        _ => [head, numbers(part(random, pattern, dim, cell))].concat(),
+    }
+}
+
+/// Whether a cell with these users lies between two others.
+pub fn between_two(users: &[Face]) -> bool {
     users.len() == 2 && users[0].1 != users[1].1
 }
 
-/// A cell whose users are as wanted, if a few tries find one.
-fn likely(random: &mut Random, pattern: &Pattern, dim: usize, wanted: impl Fn(&[Face]) -> bool) -> u8 {
-    let mut cell = 0;
-    for _ in 0..12 {
-        cell = random.below(pattern.count(dim));
-        if pattern.count(dim) == 0 || wanted(&pattern.users(dim, cell)) {
-            break;
-        }
+/// Whether a cell of dimension `dim` with these users lies between two others, and these share it alone or, if so wished, others too.
+fn merging(pattern: &Pattern, dim: usize, users: &[Face], others: bool) -> bool {
+    between_two(users) && (shared(pattern, dim + 1, users[0].0, users[1].0).count() > 1) == others
+}
+
+/// An operator that makes two cells share a face besides the one of dimension `dim` between them, and their merge there. The first is a
+/// split of what lies between or, at a corner where one seam alone ends, a seam back.
+pub fn sharing(random: &mut Random, pattern: &Pattern, dim: usize) -> [Vec<u8>; 2] {
+    let wanted = |users: &[Face]| if dim == 0 { users.len() == 1 } else { merging(pattern, dim, users, false) };
+    let cell = likely(random, pattern, dim, wanted);
+    let first = match dim {
+        0 => back(pattern, cell.into()),
+        _ => split(random, pattern, dim, cell.into()),
+    };
+    [first, vec![0x40 + dim as u8, cell]]
+}
+
+/// A seam beside the first one of a corner, the other way round.
+fn back(pattern: &Pattern, corner: usize) -> Vec<u8> {
+    let seam = pattern.users(0, corner).first().map_or(Vec::new(), |user| pattern.faces(1, user.0.into()));
+    match seam[..] {
+        [(one, sign), (other, _)] if sign > 0 => vec![0x11, one, other],
+        [(one, _), (other, _)] => vec![0x11, other, one],
+        _ => vec![0x10],
     }
-    cell as u8
+}
+
+/// A cell whose users are as wanted, the next one from anywhere on, or any if there is none.
+fn likely(random: &mut Random, pattern: &Pattern, dim: usize, wanted: impl Fn(&[Face]) -> bool) -> u8 {
+    let (count, first) = (pattern.count(dim), random.below(pattern.count(dim)));
+    let mut cells = (first..count).chain(0..first);
+    cells.find(|&cell| wanted(&pattern.users(dim, cell))).unwrap_or(first) as u8
 }
 
 /// A face count and the numbers, rising.
@@ -112,7 +141,7 @@ fn part(random: &mut Random, pattern: &Pattern, dim: usize, cell: usize) -> Vec<
     let mut chosen = vec![rest.remove(random.below(rest.len()))];
     let (wanted, any) = (random.below(rest.len().max(1)), random.one_in(3));
     for _ in 0..wanted {
-        let touches = |face: &u8| any || chosen.iter().any(|own| share(pattern, dim - 1, *own, *face));
+        let touches = |face: &u8| any || chosen.iter().any(|own| shared(pattern, dim - 1, *own, *face).next().is_some());
         let near: Vec<u8> = rest.iter().copied().filter(touches).collect();
         if near.is_empty() {
             break;
@@ -124,10 +153,10 @@ fn part(random: &mut Random, pattern: &Pattern, dim: usize, cell: usize) -> Vec<
     chosen
 }
 
-/// Whether two cells have a face in common.
-fn share(pattern: &Pattern, dim: usize, one: u8, other: u8) -> bool {
-    let has = |cell: u8, face| pattern.entry(dim, cell.into(), face) != 0;
-    (0..pattern.count(dim - 1)).any(|face| has(one, face) && has(other, face))
+/// The faces that two cells have in common.
+pub fn shared(pattern: &Pattern, dim: usize, one: u8, other: u8) -> impl Iterator<Item = usize> + '_ {
+    let has = move |cell: u8, face| pattern.entry(dim, cell.into(), face) != 0;
+    (0..pattern.count(dim - 1)).filter(move |&face| has(one, face) && has(other, face))
 }
 
 /// A number at or past a count.
@@ -136,7 +165,7 @@ pub fn past(random: &mut Random, count: usize) -> u8 {
     random.pick(&[next, next, next.saturating_add(1), 95.max(next), 96.max(next), 255])
 }
 
-/// An operator of good form, likely to be refused by 5 or by 7 to 12.
+/// An operator of good form, likely to be refused by 5, by 7 to 11 or by 20.
 pub fn mistaken(random: &mut Random, pattern: &Pattern, code: u8) -> Vec<u8> {
     let dim = usize::from(code & 15);
     let cell = random.below(pattern.count(dim)) as u8;
@@ -152,6 +181,7 @@ pub fn mistaken(random: &mut Random, pattern: &Pattern, code: u8) -> Vec<u8> {
             [vec![code, if choice == 0 { past(random, pattern.count(dim)) } else { cell }], numbers(list)].concat()
         }
         (_, 0) => vec![code, past(random, pattern.count(dim))],
+        (0x40..=0x42, 1) => vec![code, likely(random, pattern, dim, |users| merging(pattern, dim, users, true))],
         _ => vec![code, cell],
     }
 }

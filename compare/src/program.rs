@@ -78,7 +78,8 @@ fn differs(Case { input, printed: expected }: &Case, chunk: usize, text: &[u8]) 
 pub fn compare(command: &[String]) -> io::Result<ExitCode> {
     let mut random = Random::new(7);
     let mut all = cases::table()?;
-    let generated = inputs::all_at_limits().into_iter().chain(inputs::faulty()).chain(inputs::mixed(&mut random, MIXED, 40_000));
+    let few = inputs::all_at_limits().into_iter().chain(inputs::faulty()).chain(inputs::merges());
+    let generated = few.chain(inputs::mixed(&mut random, MIXED, 40_000));
     all.extend(generated.map(Case::by_second));
     for (at, case) in all.iter().enumerate() {
         let chunk = match CHUNKS[at % CHUNKS.len()] {

@@ -4,7 +4,7 @@ use crate::calls::{Chain, Comparison};
 use crate::chains::{self, BOUNDARY_LIMIT, CARRY_LIMIT, DIMENSIONS};
 use crate::damaged::{self, lent};
 use crate::meshes;
-use crate::operators::{fitting, mistaken, towards, CODES};
+use crate::operators::{fitting, mistaken, sharing, towards, CODES};
 use crate::patterns::Pattern;
 use crate::random::Random;
 use crate::scripts;
@@ -43,7 +43,7 @@ impl<'a> Rounds<'a> {
         let size = SIZES[at % SIZES.len()];
         let sound = self.pool[at].clone();
         let pattern = lent(&mut self.random, &sound);
-        match self.random.below(110) {
+        match self.random.below(114) {
             0..=19 => self.grow(at, size),
             20..=39 => self.operator(&pattern, &sound),
             40..=51 => self.read(&pattern, &sound),
@@ -56,7 +56,8 @@ impl<'a> Rounds<'a> {
             79..=87 => self.boundary(&pattern),
             88..=99 => self.carry(&pattern, &sound),
             100..=104 => self.import(&pattern),
-            _ => self.export(&pattern),
+            105..=109 => self.export(&pattern),
+            _ => self.merge(&sound),
         }
     }
 
@@ -81,6 +82,15 @@ impl<'a> Rounds<'a> {
     fn operator(&mut self, pattern: &Pattern, sound: &Pattern) {
         let bytes = self.some_operator(sound);
         self.comparison.apply_operator(pattern, &bytes);
+    }
+
+    /// A merge of two cells that were just made to share more than one face, in one script and one by one.
+    fn merge(&mut self, sound: &Pattern) {
+        let dim = self.random.below(3);
+        let operators = sharing(&mut self.random, sound, dim);
+        self.comparison.run_script(sound, &scripts::script(sound.counts, &operators));
+        let changed = self.comparison.apply_operator(sound, &operators[0]);
+        self.comparison.apply_operator(&changed, &operators[1]);
     }
 
     /// The pattern's mesh, whole or damaged, over what the lent matrices hold.

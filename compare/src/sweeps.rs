@@ -4,7 +4,7 @@ use crate::calls::{Chain, Comparison};
 use crate::chains::{out, sound, CARRY_LIMIT};
 use crate::damaged::variants;
 use crate::meshes::{self, grid, parallel, ring, simplex};
-use crate::operators::{fitting, CODES};
+use crate::operators::{fitting, split, CODES};
 use crate::patterns::Pattern;
 use crate::random::Random;
 use crate::scripts::{self, of_length, script, OPERATOR_LIMIT, SCRIPT_LIMIT};
@@ -35,6 +35,7 @@ impl<'a> Sweeps<'a> {
         for mesh in meshes::all() {
             let pattern = Pattern::from_mesh(&mesh);
             self.limits(&pattern);
+            self.merges(&pattern);
             self.outputs(&pattern, mesh.len());
             self.spoiled(&pattern);
             self.lengths(&pattern);
@@ -81,6 +82,19 @@ impl<'a> Sweeps<'a> {
                 let bytes = [&[code][..], &[1, 1, 1][..more]].concat();
                 self.comparison.apply_operator(pattern, &bytes);
                 self.carried(pattern, &bytes);
+            }
+        }
+    }
+
+    /// Every merge, alone and after its cell was split: then the cells beside it share both halves.
+    fn merges(&mut self, pattern: &Pattern) {
+        let cells = (0..3).flat_map(|dim| (0..pattern.count(dim)).map(move |cell| (dim, cell)));
+        for (dim, cell) in cells.filter(|_| pattern.size() < 100) {
+            let merge = vec![0x40 + dim as u8, cell as u8];
+            self.comparison.apply_operator(pattern, &merge);
+            if dim > 0 {
+                let split = split(&mut self.random, pattern, dim, cell);
+                self.comparison.run_script(pattern, &script(pattern.counts, &[split, merge]));
             }
         }
     }

@@ -10,14 +10,14 @@ pub use limits::{COORDINATES, SIDE, SIZE};
 pub use refusal::Refusal;
 
 /// Raised by one with each change that a caller can see, as in include/mbyasoka.h.
-pub const VERSION: u32 = 3;
+pub const VERSION: u32 = 4;
 
 pub type Chain = [i32; SIDE];
 
 /// x, y and z of each corner, one corner after another.
 pub type Coordinates = [i32; COORDINATES];
 
-/// What became of a script. **Where an operator was refused (5 to 12), the `ran` before it have changed the pattern and stay.**
+/// What became of a script. **Where an operator was refused (5 to 11 or 20), the `ran` before it have changed the pattern and stay.**
 #[derive(Clone, Copy, Debug, PartialEq, Eq)]
 pub struct Run {
     pub ran: u16,

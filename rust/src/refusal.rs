@@ -22,6 +22,7 @@ impl Refusal {
     pub const WRONG_PART: u8 = 9;
     pub const WRONG_DIVIDER: u8 = 10;
     pub const NOT_BETWEEN: u8 = 11;
+    /// No call answers it since version 4: where the two cells of a merge share one face alone, their sum is always a boundary.
     pub const WRONG_SUM: u8 = 12;
     pub const STALE: u8 = 13;
     pub const BYTES_LEFT: u8 = 14;
@@ -30,6 +31,7 @@ impl Refusal {
     pub const NOT_CARRIED: u8 = 17;
     pub const WRONG_OFF: u8 = 18;
     pub const NOT_PLAIN: u8 = 19;
+    pub const SHARED_FACE: u8 = 20;
 
     /// What the functions of `calls` answer where there is no place.
     pub const NO_PLACE: u32 = 4_294_967_295;
@@ -57,6 +59,7 @@ impl Refusal {
             Self::NOT_CARRIED => "no chain is carried through a kill or a merge",
             Self::WRONG_OFF => "the text does not have the form of a plain OFF text, or a coordinate is out of range",
             Self::NOT_PLAIN => "no OFF text has a block, a loose seam, two seams with the same ends, or a panel that is not one ring",
+            Self::SHARED_FACE => "the two cells of a merge share another face, which would be left loose",
             _ => "no answer of this version has this number",
         }
     }

@@ -24,9 +24,9 @@ fn numbers_are_those_of_the_header() {
     let limits = limits![
         SIDE SIZE MESH_BYTES SCRIPT_BYTES OPERATORS OPERATOR_BYTES BOUNDARY_LIMIT CARRY_LIMIT COORDINATES COORDINATE_LIMIT OFF_BYTES
     ];
-    let refusals: [(&str, i64); 20] = refusals![
+    let refusals: [(&str, i64); 21] = refusals![
         WRONG_LENGTH NOT_GOOD BYTES_END WRONG_FORM NO_SUCH_CELL NO_ROOM NOT_CLOSED IN_USE WRONG_PART WRONG_DIVIDER NOT_BETWEEN WRONG_SUM
-        STALE BYTES_LEFT SHORT_OUTPUT WRONG_CHAIN NOT_CARRIED WRONG_OFF NOT_PLAIN NO_PLACE
+        STALE BYTES_LEFT SHORT_OUTPUT WRONG_CHAIN NOT_CARRIED WRONG_OFF NOT_PLAIN SHARED_FACE NO_PLACE
     ];
     let ours: Vec<_> = [("VERSION", VERSION.into())].into_iter().chain(limits).chain([("ACCEPTED", 0)]).chain(refusals).collect();
     assert_eq!(HEADER.lines().filter_map(given).collect::<Vec<_>>(), ours);
@@ -50,7 +50,7 @@ fn sentences_are_those_of_the_header() {
             None => otherwise = Some(text),
         }
     }
-    assert_eq!(theirs.iter().flatten().count(), 20);
+    assert_eq!(theirs.iter().flatten().count(), 21);
     for (number, text) in (0..=255).zip(theirs) {
         assert_eq!(Some(Refusal { number, place: None }.text()), text.or(otherwise), "{number}");
     }

@@ -62,6 +62,25 @@ fn a_merge_right_after_a_split_gives_back_every_byte() {
 }
 
 #[test]
+fn a_merge_that_would_leave_a_seam_loose_is_refused() {
+    let mut pattern = triangle();
+    assert_eq!(pattern.run(&SCRIPT), Run { ran: 2, refusal: None });
+    let divided = pattern.clone();
+    // seam 4, the one between the two panels, becomes two
+    assert_eq!(pattern.apply(&[0x31, 4]), Ok(()));
+    let before = pattern.clone();
+    for seam in [4, 5] {
+        assert_eq!(pattern.apply(&[0x41, seam]), Err(refused(Refusal::SHARED_FACE)));
+        assert!(pattern == before);
+    }
+    // they become one again, and then the panels share no other
+    assert_eq!(pattern.apply(&[0x40, 4]), Ok(()));
+    assert!(pattern == divided);
+    assert_eq!(pattern.apply(&[0x41, 4]), Ok(()));
+    assert_eq!((pattern.counts, pattern.check()), ([4, 4, 1, 0], Ok(())));
+}
+
+#[test]
 fn a_stale_script_runs_nothing() {
     let mut pattern = triangle();
     assert_eq!(pattern.apply(&[0x31, 0]), Ok(()));

@@ -23,6 +23,11 @@ impl Cell {
         }
     }
 
+    /// Whether a face besides `named` is a face of both cells, whatever its signs.
+    pub fn shares_besides(&self, other: &Cell, named: u8) -> bool {
+        self.faces.iter().any(|&(face, _)| face != named && other.sign_of(face) != 0)
+    }
+
     /// A seam's face with the given sign: its tail for -1, its head for 1.
     pub fn end(&self, sign: i8) -> Option<u8> {
         let found = self.faces.iter().find(|&&(_, own)| own == sign);

@@ -124,6 +124,10 @@ fn merge(pattern: &mut Pattern, dim: usize, cell: u8) -> Answer<()> {
         [(lower, sign), (higher, other)] if sign != other => (lower as u8, higher as u8),
         _ => return Err(Refusal::NotBetweenTwo),
     };
+    let (kept, dropped) = (find(pattern, dim + 1, lower)?, find(pattern, dim + 1, higher)?);
+    demand(!kept.shares_besides(dropped, cell), Refusal::SharedFace)?;
+    // The rules ask for the sum next, but in a good pattern it is always a cell: every face besides
+    // the named one is in one of the two alone, and there is such a face, or they would not close.
     let sum = pattern.boundary_of(dim + 1, &[(lower, 1), (higher, 1)]);
     let merged = Cell::from_sum(&sum).ok_or(Refusal::Sum)?;
     demand(!merged.faces.is_empty(), Refusal::Sum)?;

@@ -25,6 +25,7 @@ pub enum Refusal {
     NotCarried = 17,
     OffForm = 18,
     OffObstacle = 19,
+    SharedFace = 20,
 }
 
 pub type Answer<T> = Result<T, Refusal>;

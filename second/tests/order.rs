@@ -96,15 +96,15 @@ fn split_refused_by_its_dividing_cell() {
 }
 
 #[test]
-fn merge_refused_by_its_sum() {
+fn merge_refused_before_its_sum() {
     // Seams 0 to 1, then three times 1 to 0; the panels are +0 +1 and +0 -1 +2 +3.
     let twice = [2, 4, 0, 1, 1, 0, 1, 0, 1, 0, 2, 2, 0, 1, 1, 1, 4, 0, 1, 1, 2, 2, 1, 3, 1, 0];
     let mut lent = Lent::read(&twice);
-    assert_eq!(lent.apply(&[0x41, 1]), 12, "seam 0 would count twice");
+    assert_eq!(lent.apply(&[0x41, 1]), 20, "seam 0 would count twice");
     assert_eq!(lent.mesh(), twice);
     let nothing = [2, 2, 0, 1, 1, 0, 2, 2, 0, 1, 1, 1, 2, 0, 2, 1, 2, 0];
     let mut lent = Lent::read(&nothing);
-    assert_eq!(lent.apply(&[0x41, 1]), 12);
+    assert_eq!(lent.apply(&[0x41, 1]), 20, "nothing would be left");
     assert_eq!(lent.mesh(), nothing);
 }
 
@@ -137,5 +137,7 @@ fn carrying_order() {
     assert_eq!(lent.carry(&[0x51, 200], 0, &chain, &mut out), 5);
     assert_eq!(lent.carry(&[0x51, 0], 0, &chain, &mut out), 16);
     assert_eq!(lent.carry(&LISTING_SCRIPT, 0, &chain, &mut out), 4);
+    let ring = Lent::read(&[2, 2, 0, 1, 1, 0, 0, 0]);
+    assert_eq!(ring.carry(&[0x40, 1], 0, &chain, &mut out), 17, "17 before 20");
     assert_eq!(out, [7; 96]);
 }

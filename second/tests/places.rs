@@ -199,7 +199,7 @@ fn applying_an_operator() {
     let rings = [4, 4, 0, 1, 1, 0, 2, 3, 3, 2, 1, 4, 0, 1, 1, 1, 2, 1, 3, 1, 0];
     assert_eq!(on(&rings, &[0x32, 0, 2, 0, 1]), (10, NO_PLACE));
     assert_eq!(on(&T, &[0x40, 0]), (11, NO_PLACE));
-    assert_eq!(on(&[2, 2, 0, 1, 1, 0, 0, 0], &[0x40, 1]), (12, NO_PLACE));
+    assert_eq!(on(&[2, 2, 0, 1, 1, 0, 0, 0], &[0x40, 1]), (20, NO_PLACE));
     let mut lent = Lent::empty();
     lent.counts[0] = 97;
     assert_eq!(lent.apply_at(&[0xff]), (2, NO_PLACE), "before the form");
@@ -275,4 +275,5 @@ fn printed_for_a_script() {
     assert_eq!(first_line(&T, &[4, 3, 3, 2, 0, 0, 0]), "ran 0 refusal 13");
     assert_eq!(first_line(&T, &[4, 3, 3, 1, 0, 2, 0, 0x10, 0x20, 4]), "ran 1 refusal 5");
     assert_eq!(first_line(&T, &[0; 24_577]), "ran 0 refusal 1");
+    assert_eq!(first_line(&[2, 2, 0, 1, 1, 0, 0, 0], &[4, 2, 2, 0, 0, 2, 0, 0x10, 0x40, 1]), "ran 1 refusal 20");
 }

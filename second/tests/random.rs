@@ -2,6 +2,7 @@
 
 mod common;
 
+use common::merging::merges_as_ruled;
 use common::{Dice, Lent, TETRAHEDRON};
 use second::{mesh_fault, operator_fault, script_fault, Fault, Field, NO_PLACE};
 
@@ -12,11 +13,9 @@ fn rising(dice: &mut Dice, limit: usize) -> Vec<u8> {
 
 /// The boundary of a random block or panel of the pattern, with its signs.
 fn signed_copy(dice: &mut Dice, lent: &Lent, dim: usize) -> Vec<u8> {
-    let matrix = if dim == 2 { &lent.m2 } else { &lent.m3 };
     let cell = dice.below(usize::from(lent.counts[dim]));
-    let column = &matrix[96 * cell..96 * cell + 96];
     let mut bytes = vec![0];
-    for (face, &entry) in column.iter().enumerate() {
+    for (face, &entry) in lent.column(dim, cell).iter().enumerate() {
         if entry != 0 {
             bytes[0] += 1;
             bytes.extend([face as u8, if entry > 0 { 1 } else { 2 }]);
@@ -49,8 +48,7 @@ fn operator(dice: &mut Dice, lent: &Lent) -> Vec<u8> {
 /// A split by part of the cell's own faces, which random lists seldom are.
 fn apt_split(dice: &mut Dice, lent: &Lent, dim: usize) -> Vec<u8> {
     let cell = dice.below(usize::from(lent.counts[dim]));
-    let matrix = if dim == 2 { &lent.m2 } else { &lent.m3 };
-    let column = &matrix[96 * cell..96 * cell + 96];
+    let column = lent.column(dim, cell);
     let faces: Vec<u8> = (0..96u8).filter(|&face| column[usize::from(face)] != 0 && dice.below(2) == 0).collect();
     [vec![0x30 + dim as u8, cell as u8, faces.len() as u8], faces].concat()
 }
@@ -94,6 +92,9 @@ fn step(dice: &mut Dice, lent: &mut Lent) -> (usize, u8) {
     let before = lent.clone();
     let refusal = lent.apply(&bytes);
     let kind = usize::from(bytes[0] >> 4) - 1;
+    if kind == 3 {
+        merges_as_ruled(&before, usize::from(bytes[0] & 15), bytes[1].into());
+    }
     if refusal != 0 {
         assert_eq!(lent, &before);
         return (kind, refusal);
@@ -112,7 +113,7 @@ fn step(dice: &mut Dice, lent: &mut Lent) -> (usize, u8) {
 #[test]
 fn laws_of_operators() {
     let mut accepted = [0; 5];
-    let mut refused = [0; 18];
+    let mut refused = [0; 21];
     for seed in 0..12 {
         let mut dice = Dice(seed);
         let mut lent = Lent::read(&TETRAHEDRON);
@@ -123,9 +124,10 @@ fn laws_of_operators() {
         }
     }
     assert!(accepted.iter().all(|&times| times > 20), "{accepted:?}");
-    for refusal in [5, 7, 8, 9, 10, 11] {
+    for refusal in [5, 7, 8, 9, 10, 11, 20] {
         assert!(refused[refusal] > 0, "{refusal} in {refused:?}");
     }
+    assert_eq!(refused[12], 0, "the sum of cells that share one face is a cell");
 }
 
 /// A tetrahedron, 53 bytes, and a script of chance for it, with one byte exchanged.

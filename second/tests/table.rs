@@ -80,7 +80,7 @@ fn case_7_make_seam() {
 fn case_8_merge_of_a_ring() {
     let ring = [2, 2, 0, 1, 1, 0, 0, 0];
     let mut lent = Lent::read(&ring);
-    assert_eq!(lent.apply(&[0x40, 1]), 12);
+    assert_eq!(lent.apply(&[0x40, 1]), 20);
     assert_eq!(lent.mesh(), ring);
 }
 

@@ -38,7 +38,7 @@ impl Studio {
         let Run { ran, refusal } = after.run(script);
         match refusal {
             // these are told of an operator, the others of the script
-            Some(refusal @ Refusal { number: 5..=12, .. }) => return Err(format!("script, operator {}: {refusal}", ran + 1)),
+            Some(refusal @ Refusal { number: 5..=11 | 20, .. }) => return Err(format!("script, operator {}: {refusal}", ran + 1)),
             Some(refusal) => return Err(format!("script: {refusal}")),
             None => {}
         }

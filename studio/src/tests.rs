@@ -46,6 +46,11 @@ fn a_refused_script_is_told_and_nothing_goes_out() {
         (script(0, &[0]), "script: there are bytes left over at byte 7 (refusal 14)"),
         (script(1, &[0x20, 0]), "script, operator 1: a cell that is to be killed is a face of another (refusal 8)"),
         (script(2, &[0x51, 0, 0x31, 5]), "script, operator 2: a cell is named that is not there (refusal 5)"),
+        // the two triangles share both halves of seam 2
+        (
+            script(2, &[0x31, 2, 0x41, 2]),
+            "script, operator 2: the two cells of a merge share another face, which would be left loose (refusal 20)",
+        ),
     ] {
         assert_eq!(out(&script, ""), Err(words.to_string()));
     }

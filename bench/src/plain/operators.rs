@@ -145,6 +145,11 @@ fn split(p: &mut Pattern, k: usize, cell: usize, s: &[u8], list: usize) -> Resul
     Ok(())
 }
 
+/// In how many rows both columns are not 0; the lowest bit tells -1 and 1 from 0.
+fn shared(x: &[i8], y: &[i8]) -> i8 {
+    x.iter().zip(y).map(|(x, y)| x & y & 1).sum()
+}
+
 fn merge(p: &mut Pattern, k: usize, t: usize) -> Result<(), Refused> {
     if p.n[k] as usize <= t {
         return Err(Refused(5));
@@ -156,14 +161,15 @@ fn merge(p: &mut Pattern, k: usize, t: usize) -> Result<(), Refused> {
     }
     let b = entries.clone().rposition(|x| *x != 0).unwrap();
     let a = entries.clone().position(|x| *x != 0).unwrap();
-    let mut sums = [0i8; SIDE];
-    for ((s, x), y) in sums.iter_mut().zip(column(d, a)).zip(column(d, b)) {
-        *s = x + y;
+    let (low, high) = d.split_at_mut(SIDE * b);
+    let (kept, gone) = (column_mut(low, a), column(high, 0));
+    if shared(kept, gone) != 1 {
+        return Err(Refused(20));
     }
-    if !is_proper(&sums) {
-        return Err(Refused(12));
+    // They share t alone, where the entries cancel: what is left is the entries of both, and a boundary.
+    for (x, y) in kept.iter_mut().zip(gone) {
+        *x += y;
     }
-    column_mut(d, a).copy_from_slice(&sums);
     remove(p, k + 1, b);
     remove(p, k, t);
     Ok(())

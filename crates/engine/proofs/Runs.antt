@@ -33,7 +33,7 @@ module _ (s : List ℕ) (at : ℕ) (p : Pattern) (H : Held p) where
   unfolding runOne
   turn-faulty {f} b q l = record {
     held = H;
-    goes = λ e. absurd (fault-numbered f (sym q ∙ e));
+    goes = λ e. absurd (fault-numbered f .not-0 (sym q ∙ e));
     ends = λ n ran go. rw (b, q, l);
   }
 

@@ -72,6 +72,6 @@ unfolding numberOf
 carry-accepted o F X {r} e z = go (carryStep o F X) refl e
   where
     go : (x : Outcome) → carryStep o F X ≡ x → r ≡ numberOf x → Edited x
-    go (refused q) i e = absurd (carry-numbered F X o q i (sym e ∙ z))
+    go (refused q) i e = absurd (carry-numbered F X o q i .not-0 (sym e ∙ z))
     go (edited S) i e = record { edit = S; is = refl }
     go (removed Y) i e = absurd (carry-keeps o F X i)

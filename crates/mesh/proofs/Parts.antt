@@ -32,7 +32,7 @@ pub faulted : {part : (Place → Reading) → Reading} {r : Part} {c : Counts} {
     → Held (pattern c m1 m2 m3) → r ≡ faultyPart c f → ((go : Place → Reading) → part go ≡ faulty f) → PartRead part r (pattern (r .counts) m1 m2 m3)
 faulted f H e is = rw e (record {
   held = H;
-  goes = λ a. absurd (fault-numbered f a);
+  goes = λ a. absurd (fault-numbered f .not-0 a);
   ends = λ _. record { last = faulty f; is = is; refusal = refl };
 })
 

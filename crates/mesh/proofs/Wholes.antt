@@ -46,7 +46,7 @@ module _ (s : List ℕ) where
   pub corners-refused : {f : Fault} {r : Part} → byteAt s 0 0 96 ≡ Field.Bad f → r ≡ faultyPart (countsOf empty) f → ReadUpTo s 1 r (zeros (r .counts))
   corners-refused {f} e a = rw a (record {
     held = stored-held (corners-good 0 (omega arith));
-    goes = λ z. absurd (fault-numbered f z);
+    goes = λ z. absurd (fault-numbered f .not-0 z);
     ends = λ _. ap refusalOf (corners-faulty e);
   })
 

@@ -1,22 +1,21 @@
 // Merge: the two cells that a cell lies between become one, and the cell goes.
 ghost use mathlib.Core.Path.{_≡_};
 ghost use Prim.Native.Nat.{suc, _+_};
-ghost use Rattle.maths.specs.Tables.{entries, table, tab};
-ghost use Rattle.grid.specs.Grid.{Line, UnitLine, UnitLines};
+ghost use Rattle.maths.specs.Tables.{entries, tab};
+ghost use Rattle.grid.specs.Grid.{Line, Lines};
 ghost use Rattle.rules.specs.Counts.{shrunkAt};
 ghost use Rattle.rules.specs.Complex.{complex, stored, layer};
 ghost use Rattle.rules.specs.Good.{oneEach, Held};
 ghost use Rattle.rules.specs.Edits.{merged, merge};
-ghost use Rattle.rules.specs.Operators.{proper, mergeStep};
+ghost use Rattle.rules.specs.Operators.{shareOnly, mergeStep};
 ghost use Rattle.rules.specs.Calls.{applied};
 ghost use Rattle.rules.specs.Lending.{asLent, atEntry, atExit, left};
 ghost use Rattle.operators.specs.Cells.{Dimension, Cell};
-ghost use Rattle.operators.specs.Joins.{summed, sidesOf, Addends, Apart, Between};
+ghost use Rattle.operators.specs.Joins.{columnOf, sidesOf, Apart, Between};
+use grid::byte::is_zero8;
 use grid::changes::add_column;
 use grid::removals::remove_column;
 use grid::removals::remove_row;
-use grid::runs::are_units;
-use grid::runs::are_zero;
 use grid::tests::row_last;
 use grid::tests::row_times;
 use maths::SIDE;
@@ -25,7 +24,7 @@ use rules::counts::Counts;
 use rules::refusals::ACCEPTED;
 use rules::refusals::NO_SUCH_CELL;
 use rules::refusals::NOT_BETWEEN;
-use rules::refusals::WRONG_SUM;
+use rules::refusals::SHARED_FACE;
 
 // The two cells that a cell lies between, the lower first, or why they cannot be merged.
 enum Sides {
@@ -41,41 +40,36 @@ fn is_between(d: &[i8], t: usize) -> bool
     row_times(d, t, -1) == 1 && row_times(d, t, 1) == 1
 }
 
-// The sum of columns a and b.
-fn add_up(d: &[i8], a: usize, b: usize, sums: &mut [i8])
-    requires { ⌜ Addends (now d) a b (now sums) ⌝ }
-    ensures { λ _. ⌜ now (sums .exit) ≡ table 96 (summed (entries (now (d .entry))) a b) ⌝ }
+// Whether columns a and b share no face besides t. All rows are looked at, which is faster than to stop at one.
+fn share_only(d: &[i8], t: usize, a: usize, b: usize) -> bool
+    requires { ⌜ Lines (now d) a b ⌝ }
+    ensures { λ r. ⌜ r ≡ shareOnly t (columnOf (entries (now (d .entry))) a) (columnOf (entries (now (d .entry))) b) ⌝ }
 {
-    let s = SIDE * a;
-    let t = SIDE * b;
+    let p = SIDE * a;
+    let q = SIDE * b;
+    let mut alone = true;
     for i in 0..SIDE {
-        sums[i] = d[s + i] + d[t + i];
+        alone = alone & ((i == t) | is_zero8(d[p + i]) | is_zero8(d[q + i]));
     }
-}
-
-// Whether the sum of columns a and b is within -1 to 1, and not all 0.
-fn is_proper_sum(d: &[i8], a: usize, b: usize) -> bool
-    requires { ⌜ UnitLines (now d) a b ⌝ }
-    ensures { λ r. ⌜ r ≡ proper (summed (entries (now (d .entry))) a b) ⌝ }
-{
-    let mut sums = [0i8; SIDE];
-    add_up(d, a, b, &mut sums);
-    are_units(&sums, 0, SIDE) && !are_zero(&sums, 0, SIDE)
+    alone
 }
 
 // The cells that cell t lies between, in the matrix that has its row.
 fn sides_in(d: &[i8], t: usize) -> Sides
-    requires { ⌜ UnitLine (now d) t ⌝ }
+    requires { ⌜ Line (now d) t ⌝ }
     ensures { λ r. ⌜ r ≡ sidesOf (entries (now (d .entry))) t ⌝ }
 {
-    if !is_between(d, t) {
-        return Sides::Refused(NOT_BETWEEN);
-    }
+    let between = is_between(d, t);
     let b = row_last(d, t, SIDE);
     let a = row_last(d, t, b);
-    if !is_proper_sum(d, a, b) {
-        return Sides::Refused(WRONG_SUM);
+    let alone = share_only(d, t, a, b);
+    if !between {
+        return Sides::Refused(NOT_BETWEEN);
     }
+    if !alone {
+        return Sides::Refused(SHARED_FACE);
+    }
+    // no test for 12: the sum of two such columns is within -1 to 1 and not all 0
     Sides::Cells(a, b)
 }
 

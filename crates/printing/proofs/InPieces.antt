@@ -44,7 +44,7 @@ pieces-printed : (input : List ℕ) → pieces (runInput (take 65536 input)) ≡
 unfolding runInput printed endOf
 pieces-printed input =
     let s = take 65536 input in
-    mesh-each (λ l t. pieces l ≡ t) s (λ r at n L. refused-pieces r at n)
+    mesh-each (λ l t. pieces l ≡ t) s (λ r at n L. refused-pieces r at (n .not-0))
     (λ X used e. run-pieces (endOf (drop used s) X) (end-good (read-good s X used e) (drop used s)))
 
 -- `print` runs an input of at most 65,536 bytes (`pattern` reads the first 65,536); three times it puts a piece at the front of its buffer and lends that

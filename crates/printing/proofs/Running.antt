@@ -57,7 +57,7 @@ module _ (s : List ℕ) (p : Pattern) (long : sized p ≡ true) {l : Lent MeshRe
   mesh-taken =
       rw (read, long)
       (mesh-each (λ (l : Lent MeshRead) (m : Lent InputRun). l .answer .refusal ≡ accepted → MeshTaken s l m) s
-      (λ r at n L k. absurd (n k))
+      (λ r at n L k. absurd (n .not-0 k))
       (λ X used e k. record { read = X; good = read-good s X used e; inside = written-read s e .0; held = refl; then = refl }))
 
 module _ {X : Complex} (G : Good X) (script : List ℕ) where

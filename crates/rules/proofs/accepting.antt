@@ -1,4 +1,5 @@
 pub mod Sides
 pub mod Passed
 pub mod Allowed
+pub mod Shared
 pub mod Accepted

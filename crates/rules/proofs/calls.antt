@@ -5,6 +5,7 @@ pub mod Places
 pub mod Left
 pub mod RoundTrips
 pub mod ChainMap
+pub mod Merging
 pub mod Undo
 pub mod OneByOne
 pub mod Through

@@ -5,4 +5,5 @@ pub mod Kills
 pub mod Splits
 pub mod Merges
 pub mod Flips
+pub mod NoLoose
 pub mod MergeSplit

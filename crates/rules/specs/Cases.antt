@@ -56,8 +56,8 @@ caseTable =
     -- 7. T, make seam 1 to 1: 7; make seam 0 to 3: 5.
     ∷ row T "04 03 03 01 00 01 00 11 01 01" ("ran 0 refusal 7" ∷ "cells 3 3 1 0" ∷ "euler 1" ∷ "e 0 0 2" ∷ "e 1 0 1" ∷ "e 2 1 2" ∷ "f 0 -0 +1 +2" ∷ [])
     ∷ row T "04 03 03 01 00 01 00 11 00 03" ("ran 0 refusal 5" ∷ "cells 3 3 1 0" ∷ "euler 1" ∷ "e 0 0 2" ∷ "e 1 0 1" ∷ "e 2 1 2" ∷ "f 0 -0 +1 +2" ∷ [])
-    -- 8. Two corners, seams 0 to 1 and 1 to 0, merge at corner 1: 12.
-    ∷ row "02 02 00 01 01 00 00 00" "04 02 02 00 00 01 00 40 01" ("ran 0 refusal 12" ∷ "cells 2 2 0 0" ∷ "euler 0" ∷ "e 0 0 1" ∷ "e 1 1 0" ∷ [])
+    -- 8. Two corners, seams 0 to 1 and 1 to 0, merge at corner 1: 20.
+    ∷ row "02 02 00 01 01 00 00 00" "04 02 02 00 00 01 00 40 01" ("ran 0 refusal 20" ∷ "cells 2 2 0 0" ∷ "euler 0" ∷ "e 0 0 1" ∷ "e 1 1 0" ∷ [])
     -- 9. T, merge at corner 1: accepted; at corner 0: 11, both seams leave it.
     ∷ row T "04 03 03 01 00 01 00 40 01" ("ran 1 refusal 0" ∷ "cells 2 2 1 0" ∷ "euler 1" ∷ "e 0 0 1" ∷ "e 1 0 1" ∷ "f 0 -0 +1" ∷ [])
     ∷ row T "04 03 03 01 00 01 00 40 00" ("ran 0 refusal 11" ∷ "cells 3 3 1 0" ∷ "euler 1" ∷ "e 0 0 2" ∷ "e 1 0 1" ∷ "e 2 1 2" ∷ "f 0 -0 +1 +2" ∷ [])

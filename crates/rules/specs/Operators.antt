@@ -1,4 +1,4 @@
--- "Operators": when each is refused, in the order 5, 6, then 7 to 12, and what it then does.
+-- "Operators": when each is refused, in the order 5, 6, then 7 to 11, 20 and 12, and what it then does.
 use mathlib.Core.Bool.{Bool, true, not, cond, _&&_, _||_}
 use mathlib.Core.List.{List, [], _∷_}
 use Prim.Native.Nat.{ℕ, zero, suc, pred}
@@ -9,7 +9,7 @@ use Rattle.maths.specs.Tests.{eqZ, isZero, isUnit, all, last}
 use Rattle.maths.specs.Sums.{sum, δ}
 use Rattle.rules.specs.declared.operator.Operator.{Operator}
 use Rattle.rules.specs.declared.operator.Operator.the-variants.{Make, Kill, Split, Merge, Flip}
-use Rattle.rules.specs.Refusals.{noSuchCell, noRoom, notClosed, inUse, wrongPart, wrongDivider, notBetween, wrongSum}
+use Rattle.rules.specs.Refusals.{noSuchCell, noRoom, notClosed, inUse, wrongPart, wrongDivider, notBetween, sharedFace, wrongSum}
 use Rattle.rules.specs.Complex.{Complex, Chain}
 use Rattle.rules.specs.Good.{oneEach, allZero, closes}
 use Rattle.rules.specs.Edits.{Step, layers, boundary, make, kill, part, split, merge, flip}
@@ -113,7 +113,12 @@ higher v = last 96 (λ j. not (isZero (v j)))
 abbrev pub lower : Chain → ℕ
 lower v = last (higher v) (λ j. not (isZero (v j)))
 
--- Merge: "exactly two non-zero entries in its row of matrix k+1, of opposite sign (else 11)"; "A sum that leaves -1 to 1, or is all 0, is refused (12)."
+-- v and w share no face besides t: no other row has both not 0, whatever the signs
+unfoldable pub shareOnly : ℕ → Chain → Chain → Bool
+shareOnly t v w = all 96 (λ i. eqb i t || isZero (v i) || isZero (w i))
+
+-- Merge: "exactly two non-zero entries in its row of matrix k+1, of opposite sign (else 11)"; "where the two cells share any face besides the named one"
+-- 20; "A sum that leaves -1 to 1, or is all 0, is refused (12)."
 unfoldable pub mergeStep : ℕ → ℕ → Complex → Outcome
 mergeStep k t X =
     let D = X (suc k) .d in
@@ -121,7 +126,8 @@ mergeStep k t X =
     let b = higher (D t) in
     unless (ltb t (X k .n)) noSuchCell
     (unless (oneEach (λ j. D t j)) notBetween
-    (unless (proper (λ i. D i a +ℤ D i b)) wrongSum (removed (merge k t a b X))))
+    (unless (shareOnly t (λ i. D i a) (λ i. D i b)) sharedFace
+    (unless (proper (λ i. D i a +ℤ D i b)) wrongSum (removed (merge k t a b X)))))
 
 unfoldable pub flipStep : ℕ → ℕ → Complex → Outcome
 flipStep k c X = unless (ltb c (X k .n)) noSuchCell (edited (flip k c X))

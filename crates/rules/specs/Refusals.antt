@@ -61,6 +61,9 @@ wrongOff = 18  -- an OFF text is not of the plain form, or a coordinate is out o
 abbrev pub notPlain : ℕ
 notPlain = 19  -- a pattern that no plain OFF text has: a block, a seam in no panel, two seams with the same two ends, or a panel that is not one ring
 
+abbrev pub sharedFace : ℕ
+sharedFace = 20  -- merge: the two cells share a face besides the named one
+
 -- The place of an answer that is no fault of the form: "the largest unsigned 32-bit number".
 abbrev pub noPlace : ℕ
 noPlace = 4_294_967_295

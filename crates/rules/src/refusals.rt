@@ -1,4 +1,4 @@
-// Numbers given back, by the names of specs/Refusals.antt. 0 means accepted.
+// Numbers given back, by the names of specs/Refusals.antt. 0 means accepted; no call answers 12, `wrongSum`.
 pub const ACCEPTED: u8 = 0;
 
 pub const WRONG_LENGTH: u8 = 1;
@@ -23,8 +23,6 @@ pub const WRONG_DIVIDER: u8 = 10;
 
 pub const NOT_BETWEEN: u8 = 11;
 
-pub const WRONG_SUM: u8 = 12;
-
 pub const STALE: u8 = 13;
 
 pub const BYTES_LEFT: u8 = 14;
@@ -38,6 +36,8 @@ pub const NOT_CARRIED: u8 = 17;
 pub const WRONG_OFF: u8 = 18;
 
 pub const NOT_PLAIN: u8 = 19;
+
+pub const SHARED_FACE: u8 = 20;
 
 // The place of an answer that is no fault of the form.
 pub const NO_PLACE: u32 = 4_294_967_295;

@@ -1,6 +1,8 @@
 //! A lent pattern with the calls on it, for the tests.
 #![allow(dead_code)]
 
+pub mod merging;
+
 use second::NO_PLACE;
 
 /// T of the document: three corners, three seams, one panel.
@@ -74,6 +76,12 @@ impl Lent {
         let (refusal, after, ran, place) = second::run_script(*counts, m1, m2, m3, bytes);
         *counts = after;
         (refusal, ran, place)
+    }
+
+    /// The 96 entries of a cell of dimension 1 to 3.
+    pub fn column(&self, dim: usize, cell: usize) -> &[i8] {
+        let matrix = [&self.m1, &self.m2, &self.m3][dim - 1];
+        &matrix[96 * cell..96 * cell + 96]
     }
 
     pub fn check(&self) -> u8 {

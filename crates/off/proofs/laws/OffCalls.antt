@@ -1,5 +1,6 @@
 -- The laws of the two calls, on bytes and lent lists: import leaves a good pattern or refuses, and each call undoes the other.
 use mathlib.Core.Path.{_≡_, refl, sym, fun-ext, _∙_}
+use mathlib.Core.Logic.{_≢_}
 use mathlib.Core.Bool.{true, false, _&&_}
 use mathlib.Core.List.{List, [], _∷_, _++_}
 use Prim.Native.Nat.{ℕ, zero, suc, _+_, _≤_}
@@ -12,12 +13,12 @@ use lib.Seq.{take-append-seam}
 use Rattle.maths.specs.Tables.{table}
 use Rattle.maths.proofs.Cases.{no-eq}
 use Rattle.maths.proofs.Tables.{length-table}
-use Rattle.rules.specs.Refusals.{accepted, wrongLength, noSuchCell, noRoom, notClosed, wrongOff}
+use Rattle.rules.specs.Refusals.{accepted, wrongLength, noSuchCell, noRoom, notClosed, wrongSum, wrongOff}
 use Rattle.rules.specs.Complex.{Pattern, pattern, Complex, complex, stored, empty}
 use Rattle.rules.specs.Good.{Good, Held, isGood}
 use Rattle.rules.specs.Mesh.{corners}
 use Rattle.rules.specs.Calls.{sized}
-use Rattle.rules.proofs.branches.Branches.{cond-each}
+use Rattle.rules.proofs.branches.Branches.{cond-each, good-each}
 use Rattle.rules.proofs.storage.Stored.{complex-stored, stored-held, sized-is}
 use Rattle.rules.proofs.storage.Tested.{complex-bounded, good-true, good-is}
 use Rattle.rules.proofs.texts.ReadGood.{corners-good}
@@ -220,3 +221,22 @@ import-after-export p c out e q d long =
       good = T .good;
       says = said-again c (E .good) (E .plain) S (again .1);
     })
+
+-- neither call answers 12
+pub import-never-12 : (s : List ℕ) (p : Pattern) (c : List ℤ) → importCall s p c .answer .refusal ≢ wrongSum
+import-never-12 s p c = import-each (λ l. l .answer .refusal ≢ wrongSum) s p c
+    (λ _. omega arith)
+    (λ _ _. omega arith)
+    (λ _ P u r q f e. omega (arith, sew-numbered P r (text-says s q) f .1))
+    (λ _ P u X q f. omega arith)
+
+pub export-never-12 : (p : Pattern) (c : List ℤ) (out : List ℕ) → exportCall p c out .answer .refusal ≢ wrongSum
+unfolding exportCall exportGood
+export-never-12 p c out =
+    let X = complex p in
+    let Q : ExportLeft → Type 0 = λ l. l .answer .refusal ≢ wrongSum in
+    good-each Q (sized p && sizedList c) (isGood X) (λ _ _.
+    cond-each Q (coordinatesNear (X 0 .n) c) (λ _.
+    cond-each Q (isPlain X) (λ _.
+    cond-each Q (leb (length (exportText X c)) (length out)) (λ _. omega arith) (λ _. omega arith)) (λ _. omega arith)) (λ _. omega arith))
+    (omega arith) (omega arith)

@@ -12,13 +12,14 @@ use Rattle.maths.specs.Tables.{tab}
 use Rattle.maths.proofs.Cases.{lt-or}
 use Rattle.grid.specs.Grid.{Line, UnitLine, over, removedColumn, removedRow}
 use Rattle.rules.specs.Counts.{countOf, shrunkAt}
-use Rattle.rules.specs.Refusals.{noSuchCell, notBetween, wrongSum}
+use Rattle.rules.specs.Refusals.{noSuchCell, notBetween, sharedFace}
 use Rattle.rules.specs.Complex.{Pattern, Complex, Chain, complex, stored, pattern, layer, Sized}
-use Rattle.rules.specs.Good.{oneEach}
+use Rattle.rules.specs.Good.{Good, oneEach}
 use Rattle.rules.specs.Edits.{at3, withoutColumn, withoutRow, merged, merge}
-use Rattle.rules.specs.Operators.{Outcome, refused, removed, proper, mergeStep, lower, higher}
+use Rattle.rules.specs.Operators.{Outcome, refused, removed, shareOnly, mergeStep, lower, higher}
+use Rattle.rules.proofs.accepting.Accepted.{merge-step-is}
 use Rattle.operators.specs.Cells.{Cell}
-use Rattle.operators.specs.Joins.{summed, sidesOf, Apart, Between}
+use Rattle.operators.specs.Joins.{columnOf, sidesOf, Apart, Between}
 use Rattle.operators.specs.declared.merge.Sides.{Sides}
 use Rattle.operators.proofs.patterns.Patterns.{count-at, Absent, stored-is, same1, same3, unit1, unit2, unit3, Refuses, Leaves}
 use Rattle.operators.proofs.merge.Rows.{cells-met}
@@ -32,19 +33,20 @@ afterSides (Sides.Refused r) bad go = bad r
 
 -- the tests of the definition in their order
 sides-then : (x y : Bool) (a b : ℕ) (go : ℕ → ℕ → Outcome)
-    → cond x (cond y (go a b) (refused wrongSum)) (refused notBetween)
-    ≡ afterSides (cond x (cond y (Sides.Cells a b) (Sides.Refused wrongSum)) (Sides.Refused notBetween)) refused go
+    → cond x (cond y (go a b) (refused sharedFace)) (refused notBetween)
+    ≡ afterSides (cond x (cond y (Sides.Cells a b) (Sides.Refused sharedFace)) (Sides.Refused notBetween)) refused go
 sides-then true true a b go = refl
 sides-then true false a b go = refl
 sides-then false y a b go = refl
 
-step-sides : (k t : ℕ) (X : Complex) → t < X k .n
+step-sides : {X : Complex} → Good X → (k t : ℕ) → t < X k .n
     → mergeStep k t X ≡ afterSides (sidesOf (X (suc k) .d) t) refused (λ a b. removed (merge k t a b X))
-unfolding mergeStep sidesOf
-step-sides k t X h =
-    let v : Chain = λ j. X (suc k) .d t j in
-    rw (lt-ltb _ _ h)
-    (sides-then (oneEach v) (proper (summed (X (suc k) .d) (lower v) (higher v))) (lower v) (higher v) (λ a b. removed (merge k t a b X)))
+unfolding sidesOf
+step-sides {X} G k t h =
+    let D = X (suc k) .d in
+    let v : Chain = λ j. D t j in
+    rw (merge-step-is G k t, lt-ltb _ _ h)
+    (sides-then (oneEach v) (shareOnly t (columnOf D (lower v)) (columnOf D (higher v))) (lower v) (higher v) (λ a b. removed (merge k t a b X)))
 
 -- there is no such cell, the cell merges none, or the two become one
 pub merge-absent : {p : Pattern} {k t : ℕ} → Absent p k t → Refuses p noSuchCell (mergeStep k t (complex p))
@@ -53,11 +55,11 @@ merge-absent h = rw (le-ltb _ _ (h .beyond))
 
 module _ {least most : ℕ} {p : Pattern} {k t : ℕ} (h : Cell least most p k t) where
   pub merge-refused : (r : ℕ) → Sides.Refused r ≡ sidesOf (complex p (suc k) .d) t → Refuses p r (mergeStep k t (complex p))
-  merge-refused r e = rw (step-sides k t (complex p) (h .there), ← e)
+  merge-refused r e = rw (step-sides (h .held .good) k t (h .there), ← e)
 
   pub merge-done : {q : Pattern} {a b : ℕ} → Sides.Cells a b ≡ sidesOf (complex p (suc k) .d) t → q ≡ stored (merge k t a b (complex p))
       → Leaves p q (mergeStep k t (complex p))
-  merge-done e is = rw (step-sides k t (complex p) (h .there), ← e, is)
+  merge-done e is = rw (step-sides (h .held .good) k t (h .there), ← e, is)
 
 -- the two cells that are found are cells of the pattern
 pub between : {p : Pattern} {k t a b : ℕ} → Cell 0 2 p k t → Sides.Cells a b ≡ sidesOf (complex p (suc k) .d) t → Between p k t a b

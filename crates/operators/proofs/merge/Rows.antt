@@ -1,24 +1,21 @@
--- The row of a cell and the sum of two columns: the two cells that it lies between, or the refusal.
-use mathlib.Core.Path.{_≡_, refl, sym, ap}
+-- The row of a cell and the faces that two columns share: the two cells that it lies between, or the refusal.
+use mathlib.Core.Path.{_≡_, refl, sym}
 use mathlib.Core.Logic.{_≢_}
 use mathlib.Core.Bool.{Bool, true, false, not, cond}
-use mathlib.Core.List.{List}
-use Prim.Native.Nat.{ℕ, _+_, _<_}
+use Prim.Native.Nat.{ℕ, _<_, _≤_}
 use native.Mathlib.Omega.{arith}
 use borrow.Author.Tests.{not-true}
 use lib.IntN.{ℤ, pos, negsuc, pos-ne-negsuc}
-use Rattle.maths.specs.Tests.{eqZ, isZero, isUnit, all, last}
-use Rattle.maths.specs.Tables.{Entries, table}
-use Rattle.maths.proofs.Cases.{lt-or}
-use Rattle.maths.proofs.Tests.{eqZ-true, zero-false, all-same, one-found, last-passes, last-most}
-use Rattle.maths.proofs.Tables.{getD-table}
-use Rattle.grid.specs.Grid.{run}
-use Rattle.rules.specs.Refusals.{notBetween, wrongSum}
+use Rattle.maths.specs.Tests.{eqZ, isZero, last}
+use Rattle.maths.specs.Tables.{Entries}
+use Rattle.maths.proofs.Cases.{by-bool, lt-or}
+use Rattle.maths.proofs.Tests.{eqZ-true, zero-false, one-found, last-le, last-passes, last-most}
+use Rattle.rules.specs.Refusals.{notBetween, sharedFace}
 use Rattle.rules.specs.Complex.{Chain}
-use Rattle.rules.specs.Good.{oneEach, allZero}
-use Rattle.rules.specs.Operators.{proper, lower, higher}
+use Rattle.rules.specs.Good.{oneEach}
+use Rattle.rules.specs.Operators.{shareOnly, lower, higher}
 use Rattle.rules.proofs.layers.Judged.{one-each-true}
-use Rattle.operators.specs.Joins.{summed, sidesOf}
+use Rattle.operators.specs.Joins.{columnOf, sidesOf}
 use Rattle.operators.specs.declared.merge.Sides.{Sides}
 
 -- a is below b, and b is the number of a cell that the row v meets
@@ -55,7 +52,7 @@ no-cells : {a b r : ℕ} → Sides.Cells a b ≢ Sides.Refused r
 no-cells e = let z : _≡_ {A = ℕ} 0 1 = cc in omega arith
 
 sides-are : (x y : Bool) (l h : ℕ) {a b : ℕ}
-    → Sides.Cells a b ≡ cond x (cond y (Sides.Cells l h) (Sides.Refused wrongSum)) (Sides.Refused notBetween)
+    → Sides.Cells a b ≡ cond x (cond y (Sides.Cells l h) (Sides.Refused sharedFace)) (Sides.Refused notBetween)
     → (x ≡ true) × (l ≡ a) × (h ≡ b)
 sides-are true true l h e = (refl, cc, cc)
 sides-are true false l h e = absurd (no-cells e)
@@ -66,48 +63,40 @@ pub cells-met : (f : Entries) (t : ℕ) {a b : ℕ} → Sides.Cells a b ≡ side
 unfolding sidesOf
 cells-met f t e =
     let v : Chain = λ j. f t j in
-    let s = sides-are (oneEach v) (proper (summed f (lower v) (higher v))) (lower v) (higher v) e in
+    let s = sides-are (oneEach v) (shareOnly t (columnOf f (lower v)) (columnOf f (higher v))) (lower v) (higher v) e in
     rw (s .1, s .2) at (two-met v (s .0))
 
--- the tests of a row, step by step
-pub not-between : (f : Entries) (t : ℕ) → oneEach (λ j. f t j) ≡ false → Sides.Refused notBetween ≡ sidesOf f t
-unfolding sidesOf
-not-between f t o = rw o
+-- the two places that are looked up, whatever the row is
+higher-low : (v : Chain) → higher v < 96
+unfolding last
+higher-low v =
+    let met : ℕ → Bool = λ j. not (isZero (v j)) in
+    by-bool (met 95) (λ t. cond t 95 (last 95 met) < 96) (λ _. omega arith) (λ _. omega (arith, last-le 95 met))
 
-pub last-low : (v : Chain) {b : ℕ} → oneEach v ≡ true → b ≡ higher v → b < 96
-last-low v o e = rw e (two-met v o .high)
-
--- a and b are the two places of a row that has them
 pub record Places (f : Entries) (t a b : ℕ) : Type 0 where
-  pub both : oneEach (λ j. f t j) ≡ true
   pub last-is : b ≡ higher (λ j. f t j)
   pub first-is : a ≡ last b (λ j. not (isZero (f t j)))
 
+pub last-low : (f : Entries) (t : ℕ) {b : ℕ} → b ≡ higher (λ j. f t j) → b < 96
+last-low f t e = rw e (higher-low (λ j. f t j))
+
+-- the tests in their order, and what each tells
 module _ {f : Entries} {t a b : ℕ} (P : Places f t a b) where
-  pub places-met : Pair (λ j. f t j) a b
-  places-met = rw (P .first-is, P .last-is) (two-met (λ j. f t j) (P .both))
+  pub second-low : b < 96
+  second-low = last-low f t (P .last-is)
 
-  pub wrong-sum : proper (summed f a b) ≡ false → Sides.Refused wrongSum ≡ sidesOf f t
+  pub first-low : a < 96
+  first-low = let first : a ≤ b = rw (P .first-is) (last-le b (λ j. not (isZero (f t j)))) in omega (arith, second-low)
+
+  pub not-between : oneEach (λ j. f t j) ≡ false → Sides.Refused notBetween ≡ sidesOf f t
   unfolding sidesOf
-  wrong-sum q = rw (P .both, ← P .last-is, ← P .first-is, q)
+  not-between o = rw o
 
-  pub sides-found : proper (summed f a b) ≡ true → Sides.Cells a b ≡ sidesOf f t
-  unfolding sidesOf
-  sides-found q = rw (P .both, ← P .last-is, ← P .first-is, q)
+  module _ (o : oneEach (λ j. f t j) ≡ true) where
+    pub shared-face : shareOnly t (columnOf f a) (columnOf f b) ≡ false → Sides.Refused sharedFace ≡ sidesOf f t
+    unfolding sidesOf
+    shared-face q = rw (o, ← P .last-is, ← P .first-is, q)
 
--- the tests of 96 sums are those of the chain that they are
-module _ {sums : List ℤ} (v : Chain) (e : sums ≡ table 96 v) where
-  tested : (f : ℤ → Bool) → all 96 (λ i. f (run sums 0 i)) ≡ all 96 (λ i. f (v i))
-  tested f = all-same 96 (λ i h. ap f (at i h))
-    where
-      at : (i : ℕ) → i < 96 → run sums 0 i ≡ v i
-      at i h = let z : 0 + i ≡ i = omega arith in rw (e, z) (getD-table 96 i v (pos 0) h)
-
-  pub not-units : {u : Bool} → u ≡ all 96 (λ i. isUnit (run sums 0 i)) → u ≡ false → u ≡ proper v
-  unfolding proper
-  not-units is f = rw (← tested isUnit, ← is, f)
-
-  pub units-some : {u z : Bool} → u ≡ all 96 (λ i. isUnit (run sums 0 i)) → u ≡ true
-      → z ≡ all 96 (λ i. isZero (run sums 0 i)) → not z ≡ proper v
-  unfolding proper allZero
-  units-some is t none = rw (← tested isUnit, ← tested isZero, ← is, ← none, t)
+    pub sides-found : shareOnly t (columnOf f a) (columnOf f b) ≡ true → Sides.Cells a b ≡ sidesOf f t
+    unfolding sidesOf
+    sides-found q = rw (o, ← P .last-is, ← P .first-is, q)

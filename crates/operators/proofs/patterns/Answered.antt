@@ -23,7 +23,7 @@ module _ (p : Pattern) {l : Lent Applied} where
 
   by-zero : (x : Outcome) → Numbered x → ((S : ℕ → Step) → x ≡ edited S → Good (layers S)) → ((Y : Complex) → x ≡ removed Y → Good Y)
       → l ≡ applied p x → l .answer .refusal ≡ accepted → {A : Type 0} (bad : ℕ → A) (go : Complex → A) → afterStep x bad go ≡ go (complex (appliedLeft l))
-  by-zero (refused r) n g h e q bad go = absurd (n r refl (number-is q e))
+  by-zero (refused r) n g h e q bad go = absurd (n r refl .not-0 (number-is q e))
   by-zero (edited S) n g h e q bad go = rw (e, complex-stored (g S refl))
   by-zero (removed Y) n g h e q bad go = rw (e, complex-stored (h Y refl))
 
@@ -36,7 +36,7 @@ module _ (p : Pattern) {l : Lent Applied} where
   module _ (s : List ℕ) (o : Operator) (e : l ≡ applied p (step o (facesOf s o) (complex p))) {A : Type 0} (bad : ℕ → A) (go : Complex → A) where
     pub answer-accepted : Held p → Formed s o → l .answer .refusal ≡ accepted → afterStep (step o (facesOf s o) (complex p)) bad go ≡ go (complex (appliedLeft l))
     answer-accepted H F q =
-        by-zero (step o (facesOf s o) (complex p)) (step-numbered (facesOf s o) (complex p) o)
+        by-zero (step o (facesOf s o) (complex p)) (step-numbered (facesOf s o) (complex p) (H .good) o)
         (λ S r. edit-kept (H .good) s o F r .kept .good) (λ Y r. removal-kept (H .good) s o F r .good) e q bad go
 
     pub answer-refused : l .answer .refusal ≢ accepted → afterStep (step o (facesOf s o) (complex p)) bad go ≡ bad (l .answer .refusal)

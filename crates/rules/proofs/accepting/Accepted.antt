@@ -4,24 +4,27 @@ use mathlib.Core.Logic.{_≢_}
 use mathlib.Core.Bool.{true, false, not, _&&_}
 use Prim.Native.Nat.{ℕ, zero, suc, pred, _<_, _≤_}
 use native.Mathlib.Omega.{arith}
-use borrow.Author.Tests.{not-true, ne-eqb}
-use lib.IntN.{pos, _+ℤ_}
+use borrow.Author.Tests.{not-true, ne-eqb, ltb-true}
+use lib.Dec.{ltb}
+use lib.IntN.{pos}
 use Rattle.maths.specs.Tests.{eqZ}
 use Rattle.maths.specs.Sums.{dot}
-use Rattle.maths.proofs.Cases.{lt-or, and-left, and-right}
+use Rattle.maths.proofs.Cases.{lt-or, and-left, and-right, cond-same}
 use Rattle.maths.proofs.Dots.{dot-0-l}
+use Rattle.rules.specs.Refusals.{noSuchCell, notBetween, sharedFace}
 use Rattle.rules.specs.Complex.{Complex, Chain}
-use Rattle.rules.specs.Good.{Good, allZero, closes}
+use Rattle.rules.specs.Good.{Good, OneEach, oneEach, allZero, closes}
 use Rattle.rules.specs.Edits.{Step, make, kill, split, merge, flip}
-use Rattle.rules.specs.Operators.{Faces, Outcome, edited, removed, chainOf, closed, chosen, makeStep, killStep, splitStep, mergeStep, flipStep}
+use Rattle.rules.specs.Operators.{Faces, Outcome, edited, removed, unless, chainOf, closed, chosen, lower, higher, shareOnly, makeStep, killStep, splitStep, mergeStep, flipStep}
 use Rattle.rules.proofs.branches.Branches.{refused-edited, refused-removed}
-use Rattle.rules.proofs.layers.Judged.{all-zero-at, some-entry, proper-units, proper-face, closes-at}
+use Rattle.rules.proofs.layers.Judged.{all-zero-at, some-entry, one-each-true, closes-at}
 use Rattle.rules.proofs.layers.Frame.{Within, face-below, within-rows, within-columns}
 use Rattle.rules.proofs.layers.Seams.{Ends, ends-of, one-each-of}
 use Rattle.rules.proofs.bytes.Faces.{TailHead, GivenFaces, all-below, faces-within, seam-none, seam-ends, given-none, given-units}
-use Rattle.rules.proofs.accepting.Sides.{Sides, sides-of, high-face, higher-is, lower-is}
-use Rattle.rules.proofs.accepting.Passed.{MakeTests, make-tests, kill-tests, split-tests, MergeTests, merge-tests, flip-tests}
+use Rattle.rules.proofs.accepting.Sides.{sides-found, high-face}
+use Rattle.rules.proofs.accepting.Passed.{MakeTests, make-tests, kill-tests, split-tests, merge-tests, flip-tests}
 use Rattle.rules.proofs.accepting.Allowed.{CanMake, CanKill, CanSplit, CanMerge}
+use Rattle.rules.proofs.accepting.Shared.{share-only-at, sum-proper}
 
 closed-says : (q : ℕ) (v : Chain) (X : Complex) → closed (suc q) v X ≡ true → (allZero v ≡ false) × (closes (X (pred q) .n) (X q) v ≡ true)
 unfolding closed
@@ -105,29 +108,44 @@ module _ {X : Complex} (G : Good X) where
         cc (t .is),
       )
 
-  can-merge : (k t a b : ℕ) {x : Outcome} → Sides (λ j. X (suc k) .d t j) a b → k ≤ 2 → MergeTests k t a b X x → CanMerge k t a b X
-  can-merge k t a b S d m =
-      let f = proper-face (λ i. X (suc k) .d i a +ℤ X (suc k) .d i b) (m .fine) in
+  -- the cells on either side of t, which share no other face
+  pub can-merge : (k t : ℕ) →
+      let v : Chain = λ j. X (suc k) .d t j in
+      t < X k .n → OneEach v → shareOnly t (λ i. X (suc k) .d i (lower v)) (λ i. X (suc k) .d i (higher v)) ≡ true → CanMerge k t (lower v) (higher v) X
+  can-merge k t cell between alone =
+      let v : Chain = λ j. X (suc k) .d t j in
+      let S = sides-found (ends-of between (λ j. G .units (suc k) t j) (within-columns G (suc k) t) .2) in
+      let high : higher v < X (suc k) .n = face-below (G .columns (suc k) t) (higher v) (high-face S) in
       record {
-        dim = omega arith;
-        cell = m .cell;
+        dim = lt-or k 3 (λ l. l) (λ l. absurd (omega (arith, G .top (suc k) (omega arith))));
+        cell = cell;
         less = S .less;
-        high = face-below (G .columns (suc k) t) b (high-face S);
+        high = high;
         unit = S .unit;
         opposite = S .opposite;
         only = S .only;
-        units = λ i. lt-or i 96
-            (proper-units (λ i. X (suc k) .d i a +ℤ X (suc k) .d i b) (m .fine) i)
-            (λ h. rw (within-rows G k a i h, within-rows G k b i h) (omega arith));
-        some = (f .0, f .2);
+        alone = λ i n f. share-only-at t _ _ alone i (face-below (within-rows G k (lower v)) i f) n f;
       }
 
-  pub merge-condition : (k t : ℕ) {Y : Complex} → k ≤ 2 → mergeStep k t X ≡ removed Y → (a : ℕ) × (b : ℕ) × CanMerge k t a b X × (Y ≡ merge k t a b X)
-  merge-condition k t d e =
-      let m = merge-tests k t X refused-removed e in
-      let f = sides-of (ends-of (m .between) (λ j. G .units (suc k) t j) (within-columns G (suc k) t) .2) in
-      let m' = rw (lower-is (f .2), higher-is (f .2)) at m in
-      (f .0, f .1, can-merge k t (f .0) (f .1) (f .2) d m', cc (m' .is))
+  pub merge-condition : (k t : ℕ) {Y : Complex} → mergeStep k t X ≡ removed Y →
+      let v : Chain = λ j. X (suc k) .d t j in CanMerge k t (lower v) (higher v) X × (Y ≡ merge k t (lower v) (higher v) X)
+  merge-condition k t e = let m = merge-tests k t X refused-removed e in (can-merge k t (m .cell) (m .between) (m .alone), cc (m .is))
+
+  -- so the test for 12 tells nothing more
+  pub merge-step-is : (k t : ℕ) →
+      let v : Chain = λ j. X (suc k) .d t j in
+      mergeStep k t X ≡
+      unless (ltb t (X k .n)) noSuchCell
+      (unless (oneEach v) notBetween
+      (unless (shareOnly t (λ i. X (suc k) .d i (lower v)) (λ i. X (suc k) .d i (higher v))) sharedFace (removed (merge k t (lower v) (higher v) X))))
+  unfolding mergeStep
+  merge-step-is k t =
+      let v : Chain = λ j. X (suc k) .d t j in
+      cond-same (ltb t (X k .n)) (λ cell.
+      cond-same (oneEach v) (λ between.
+      cond-same (shareOnly t (λ i. X (suc k) .d i (lower v)) (λ i. X (suc k) .d i (higher v)))
+      (λ alone. rw (sum-proper G (can-merge k t (ltb-true t (X k .n) cell) (one-each-true v between) alone)))
+      (λ _. refl)) (λ _. refl)) (λ _. refl)
 
 pub flip-accepted : (k c : ℕ) (X : Complex) {S : ℕ → Step} → flipStep k c X ≡ edited S → (c < X k .n) × (S ≡ flip k c X)
 flip-accepted k c X e = let t = flip-tests k c X refused-edited e in (t .0, cc (t .1))

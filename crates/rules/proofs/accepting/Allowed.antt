@@ -3,7 +3,7 @@ use mathlib.Core.Path.{_≡_}
 use mathlib.Core.Logic.{_≢_}
 use mathlib.Core.Bool.{Bool, true}
 use Prim.Native.Nat.{ℕ, suc, _<_, _≤_}
-use lib.IntN.{pos, natAbs, negℤ, _+ℤ_, _*ℤ_}
+use lib.IntN.{pos, natAbs, negℤ, _*ℤ_}
 use Rattle.maths.specs.Tests.{eqZ}
 use Rattle.maths.specs.Sums.{dot}
 use Rattle.rules.specs.Complex.{Complex, Chain}
@@ -38,7 +38,7 @@ pub record CanSplit (m s : ℕ) (p : ℕ → Bool) (X : Complex) : Type 0 where
   pub head : m ≡ 0 → (i : ℕ) → p i ≡ eqZ (X 1 .d i s) (pos 1)
   pub divider : divides m (boundary (X m) (part p (λ i. X (suc m) .d i s))) ≡ true
 
--- cell t of dimension k stands in just a and b, with opposite signs
+-- cell t of dimension k stands in just a and b, with opposite signs, and they share no other face
 pub record CanMerge (k t a b : ℕ) (X : Complex) : Type 0 where
   pub dim : k < 3
   pub cell : t < X k .n
@@ -47,5 +47,4 @@ pub record CanMerge (k t a b : ℕ) (X : Complex) : Type 0 where
   pub unit : X (suc k) .d t a *ℤ X (suc k) .d t a ≡ pos 1
   pub opposite : X (suc k) .d t b ≡ negℤ (X (suc k) .d t a)
   pub only : (j : ℕ) → j ≢ a → j ≢ b → X (suc k) .d t j ≡ pos 0
-  pub units : (i : ℕ) → natAbs (X (suc k) .d i a +ℤ X (suc k) .d i b) ≤ 1
-  pub some : (i : ℕ) × (X (suc k) .d i a +ℤ X (suc k) .d i b ≢ pos 0)
+  pub alone : (i : ℕ) → i ≢ t → X (suc k) .d i a ≢ pos 0 → X (suc k) .d i b ≡ pos 0

@@ -13,7 +13,7 @@ use Rattle.rules.specs.Refusals.{notCarried}
 use Rattle.rules.specs.Complex.{Complex, Chain}
 use Rattle.rules.specs.Good.{OneEach, oneEach, allZero}
 use Rattle.rules.specs.Edits.{Step, boundary, make, kill, part, split, merge, flip}
-use Rattle.rules.specs.Operators.{Faces, Outcome, refused, edited, removed, unless, chainOf, allBelow, closed, chosen, isPart, divides, proper, makeStep, killStep, splitStep, mergeStep, flipStep, step, lower, higher}
+use Rattle.rules.specs.Operators.{Faces, Outcome, refused, edited, removed, unless, chainOf, allBelow, closed, chosen, isPart, divides, proper, shareOnly, makeStep, killStep, splitStep, mergeStep, flipStep, step, lower, higher}
 use Rattle.rules.specs.Chains.{carryStep}
 use Rattle.rules.proofs.branches.Branches.{refused-edited, refused-removed, edited-removed}
 use Rattle.rules.proofs.layers.Judged.{one-each-true}
@@ -80,7 +80,7 @@ split-tests k s F X ok e =
 pub record MergeTests (k t a b : ℕ) (X : Complex) (x : Outcome) : Type 0 where
   pub cell : t < X k .n
   pub between : OneEach (λ j. X (suc k) .d t j)
-  pub fine : proper (λ i. X (suc k) .d i a +ℤ X (suc k) .d i b) ≡ true
+  pub alone : shareOnly t (λ i. X (suc k) .d i a) (λ i. X (suc k) .d i b) ≡ true
   pub is : removed (merge k t a b X) ≡ x
 
 pub merge-tests : (k t : ℕ) (X : Complex) {x : Outcome} → Accepts x → mergeStep k t X ≡ x →
@@ -90,8 +90,9 @@ merge-tests k t X ok e =
     let v : Chain = λ j. X (suc k) .d t j in
     let a = passed (ltb t (X k .n)) _ _ ok e in
     let b = passed (oneEach v) _ _ ok (a .1) in
-    let c = passed (proper (λ i. X (suc k) .d i (lower v) +ℤ X (suc k) .d i (higher v))) _ _ ok (b .1) in
-    record { cell = ltb-true t (X k .n) (a .0); between = one-each-true v (b .0); fine = c .0; is = c .1 }
+    let c = passed (shareOnly t (λ i. X (suc k) .d i (lower v)) (λ i. X (suc k) .d i (higher v))) _ _ ok (b .1) in
+    let d = passed (proper (λ i. X (suc k) .d i (lower v) +ℤ X (suc k) .d i (higher v))) _ _ ok (c .1) in
+    record { cell = ltb-true t (X k .n) (a .0); between = one-each-true v (b .0); alone = c .0; is = d .1 }
 
 pub flip-tests : (k c : ℕ) (X : Complex) {x : Outcome} → Accepts x → flipStep k c X ≡ x → (c < X k .n) × (edited (flip k c X) ≡ x)
 unfolding flipStep

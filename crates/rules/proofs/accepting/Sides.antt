@@ -26,9 +26,6 @@ module _ {v : Chain} {a b : ℕ} (E : Ends v a b) where
   pub head-first : b < a → Sides v b a
   head-first l = record { less = l; high = E .low; unit = rw (E .head); opposite = rw (E .tail, E .head); only = λ j f g. E .only j g f }
 
-  pub sides-of : (x : ℕ) × (y : ℕ) × Sides v x y
-  sides-of = lt-or a b (λ l. (a, b, tail-first l)) (λ l. (b, a, head-first (omega (arith, E .apart))))
-
 module _ {v : Chain} {a b : ℕ} (S : Sides v a b) where
   low-face : v a ≢ pos 0
   low-face e = one-not-zero (S .unit) (rw e)
@@ -41,3 +38,10 @@ module _ {v : Chain} {a b : ℕ} (S : Sides v a b) where
 
   pub lower-is : lower v ≡ a
   lower-is = rw higher-is (last-is b a (S .less) (rw (not-zero low-face)) (λ i h l. rw (S .only i (omega arith) (omega arith), zero-is)))
+
+-- so merge finds them
+sides-at : {v : Chain} {a b : ℕ} → Sides v a b → Sides v (lower v) (higher v)
+sides-at S = rw (lower-is S, higher-is S) S
+
+pub sides-found : {v : Chain} {a b : ℕ} → Ends v a b → Sides v (lower v) (higher v)
+sides-found {v} {a} {b} E = lt-or a b (λ l. sides-at (tail-first E l)) (λ l. sides-at (head-first E (omega (arith, E .apart))))

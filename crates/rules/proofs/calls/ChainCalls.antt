@@ -1,6 +1,5 @@
 -- The chain calls by cases, refused or accepted; and what an accepted one writes is within its limit, so its numbers are the whole numbers.
 use mathlib.Core.Path.{_≡_, refl}
-use mathlib.Core.Logic.{_≢_}
 use mathlib.Core.List.{List}
 use mathlib.Core.Bool.{true, _&&_}
 use Prim.Native.Nat.{ℕ, _<_, _≤_}
@@ -22,7 +21,7 @@ use Rattle.rules.specs.Form.{within, loneOperator, facesOf, faultNumber,
 use Rattle.rules.specs.Chains.{isChain, boundaryLimit, carryLimit, carryStep}
 use Rattle.rules.specs.Calls.{sized, sizedChain, Given, given, coefficients, onChain, boundaryCall, carriedBy, carryCall}
 use Rattle.rules.proofs.branches.Branches.{cond-each, operator-each, carry-each, good-each}
-use Rattle.rules.proofs.branches.Numbers.{carry-numbered, fault-numbered}
+use Rattle.rules.proofs.branches.Numbers.{Refusal, isRefusal, refusal-is, carry-numbered, fault-numbered}
 use Rattle.rules.proofs.storage.Tested.{good-true, complex-bounded}
 use Rattle.rules.proofs.calls.Limits.{chain-limit, boundary-limit, carried-limit}
 
@@ -69,14 +68,14 @@ boundaryOut p d c = given accepted (table 96 (boundary (complex p d) (coefficien
 abbrev pub carryOut : (ℕ → Step) → ℕ → List ℤ → Given
 carryOut S d c = given accepted (table 96 (S d .carried (coefficients c)))
 
--- what holds of every refusal, by a number that is not 0, with any place and with the output as it was, and of what is accepted, holds of the call
-module _ (P : Given → Type 0) (p : Pattern) (d : ℕ) (c out : List ℤ) (refuse : (r at : ℕ) → r ≢ accepted → P (record { refusal = r; place = at; out = out })) where
-  no : (r : ℕ) → r ≢ accepted → P (given r out)
-  no r = refuse r noPlace
+-- what holds of every refusal, with any place and with the output as it was, and of what is accepted, holds of the call
+module _ (P : Given → Type 0) (p : Pattern) (d : ℕ) (c out : List ℤ) (refuse : (r at : ℕ) → Refusal r → P (record { refusal = r; place = at; out = out })) where
+  no : (r : ℕ) → isRefusal r ≡ true → P (given r out)
+  no r h = refuse r noPlace (refusal-is r h)
 
   chain-each : (limit n : ℕ) (f : Chain → Chain) → (isChain limit n (coefficients c) ≡ true → P (given accepted (table 96 (f (coefficients c))))) →
       P (onChain limit n c (λ r. given r out) f)
-  chain-each limit n f done = cond-each P (isChain limit n (coefficients c)) done (λ t. no wrongChain (omega arith))
+  chain-each limit n f done = cond-each P (isChain limit n (coefficients c)) done (λ t. no wrongChain refl)
 
   pub boundary-call-each : (BoundaryTaken p d c out → P (boundaryOut p d c)) → P (boundaryCall p d c out)
   unfolding boundaryCall
@@ -84,8 +83,8 @@ module _ (P : Given → Type 0) (p : Pattern) (d : ℕ) (c out : List ℤ) (refu
       good-each P (sized p && sizedChain c && sizedChain out) (isGood (complex p))
       (λ l g. cond-each P (within 1 3 d)
       (λ t. chain-each boundaryLimit (complex p d .n) (boundary (complex p d)) λ w. done (record { sizes = chain-sizes p c out l; good = g; dim = t; chain = w }))
-      (λ t. no wrongForm (omega arith)))
-      (no notGood (omega arith)) (no wrongLength (omega arith))
+      (λ t. no wrongForm refl))
+      (no notGood refl) (no wrongLength refl)
 
   pub carry-call-each : (s : List ℕ) → ((S : ℕ → Step) → CarryTaken p s d c out S → P (carryOut S d c)) → P (carryCall p s d c out)
   unfolding carryCall carriedBy
@@ -93,21 +92,21 @@ module _ (P : Given → Type 0) (p : Pattern) (d : ℕ) (c out : List ℤ) (refu
       good-each P (sized p && sizedChain c && sizedChain out) (isGood (complex p))
       (λ l g. cond-each P (within 0 3 d)
       (λ t. operator-each P (loneOperator s) (λ f. refuse (faultNumber f) (faultPlace f) (fault-numbered f)) λ o next e.
-      carry-each P (carryStep o (facesOf s o) (complex p)) (λ r q. no r (carry-numbered (facesOf s o) (complex p) o r q)) (no notCarried (omega arith)) λ S q.
+      carry-each P (carryStep o (facesOf s o) (complex p)) (λ r q. refuse r noPlace (carry-numbered (facesOf s o) (complex p) o r q)) (no notCarried refl) λ S q.
       chain-each carryLimit (complex p d .n) (S d .carried) λ w.
       done S (record { sizes = chain-sizes p c out l; good = g; dim = t; operator = o; next = next; form = e; carried = q; chain = w }))
-      (λ t. no wrongForm (omega arith)))
-      (no notGood (omega arith)) (no wrongLength (omega arith))
+      (λ t. no wrongForm refl))
+      (no notGood refl) (no wrongLength refl)
 
 -- an accepted call
 pub boundary-taken : (p : Pattern) (d : ℕ) (c out : List ℤ) → boundaryCall p d c out .refusal ≡ accepted → BoundaryTaken p d c out × (boundaryCall p d c out ≡ boundaryOut p d c)
 boundary-taken p d c out =
-    boundary-call-each (λ g. g .refusal ≡ accepted → BoundaryTaken p d c out × (g ≡ boundaryOut p d c)) p d c out (λ r at n e. absurd (n e)) (λ B e. (B, refl))
+    boundary-call-each (λ g. g .refusal ≡ accepted → BoundaryTaken p d c out × (g ≡ boundaryOut p d c)) p d c out (λ r at n e. absurd (n .not-0 e)) (λ B e. (B, refl))
 
 pub carry-taken : (p : Pattern) (s : List ℕ) (d : ℕ) (c out : List ℤ) → carryCall p s d c out .refusal ≡ accepted →
     (S : ℕ → Step) × CarryTaken p s d c out S × (carryCall p s d c out ≡ carryOut S d c)
 carry-taken p s d c out =
-    carry-call-each (λ g. g .refusal ≡ accepted → (S : ℕ → Step) × CarryTaken p s d c out S × (g ≡ carryOut S d c)) p d c out (λ r at n e. absurd (n e)) s
+    carry-call-each (λ g. g .refusal ≡ accepted → (S : ℕ → Step) × CarryTaken p s d c out S × (g ≡ carryOut S d c)) p d c out (λ r at n e. absurd (n .not-0 e)) s
     (λ S C e. (S, C, refl))
 
 -- and what is so lent is accepted
@@ -131,10 +130,10 @@ table-limit : (limit : ℕ) (f : Chain) → ((i : ℕ) → natAbs (f i) ≤ limi
 table-limit limit f h = list-limit limit (table 96 f) (length-table 0 96 f) (λ i l. rw (getD-table 96 i f (pos 0) l) (h i))
 
 pub boundary-call-limit : (p : Pattern) (d : ℕ) (c out : List ℤ) → Limited 96_000_000 (boundaryCall p d c out)
-boundary-call-limit p d c out = boundary-call-each (Limited 96_000_000) p d c out (λ r at n e. absurd (n e)) λ B e.
+boundary-call-limit p d c out = boundary-call-each (Limited 96_000_000) p d c out (λ r at n e. absurd (n .not-0 e)) λ B e.
     table-limit 96_000_000 _ (boundary-limit (good-true (complex-bounded p) (B .good)) d (complex p d .n) (coefficients c) (B .chain))
 
 pub carry-call-limit : (p : Pattern) (s : List ℕ) (d : ℕ) (c out : List ℤ) → Limited carryLimit (carryCall p s d c out)
-carry-call-limit p s d c out = carry-call-each (Limited carryLimit) p d c out (λ r at n e. absurd (n e)) s λ S C e.
+carry-call-limit p s d c out = carry-call-each (Limited carryLimit) p d c out (λ r at n e. absurd (n .not-0 e)) s λ S C e.
     table-limit carryLimit _ (carried-limit (complex p) (C .operator) (facesOf s (C .operator)) (C .carried) carryLimit d (coefficients c)
     (list-limit carryLimit c (C .sizes .long) (chain-limit carryLimit (complex p d .n) (coefficients c) (C .chain))))

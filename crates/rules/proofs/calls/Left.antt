@@ -1,7 +1,6 @@
 -- Demands 1 and 2 of the calls of one operator and of a script, in counts and bytes: what is left is good whatever was refused, the Euler number has
 -- moved by the listed amounts, and a script that is faulty or stale runs nothing.
 use mathlib.Core.Path.{_≡_, sym, _∙_, ap}
-use mathlib.Core.Logic.{_≢_}
 use mathlib.Core.Bool.{true, false}
 use mathlib.Core.List.{List}
 use Prim.Native.Nat.{ℕ}
@@ -25,7 +24,7 @@ use Rattle.rules.specs.Form.{operatorAt, loneOperator, facesOf, scriptFo
 use Rattle.rules.specs.Script.{runScript, movedBy, sameBase}
 use Rattle.rules.specs.Calls.{Lent, lent, sized, sizedScript, applied, appliedLeft, operatorLeft, scriptLeft, eulerCall, applyCall, runCall}
 use Rattle.rules.proofs.branches.Branches.{cond-each, operator-each, step-each}
-use Rattle.rules.proofs.branches.Numbers.{step-numbered}
+use Rattle.rules.proofs.branches.Numbers.{Refusal, step-numbered}
 use Rattle.rules.proofs.bytes.Fields.{bad-operator, after-operator}
 use Rattle.rules.proofs.bytes.Decoded.{Formed, decoded}
 use Rattle.rules.proofs.storage.Stored.{sized-is, stored-held, stored-complex, complex-stored}
@@ -69,10 +68,10 @@ lone-at s {o} {next} e =
 
 module _ {p : Pattern} (H : Held p) (s : List ℕ) where
   -- an operator in form on a good pattern: what holds of a refusal and of a good pattern whose Euler number has moved, holds of what follows it
-  formed-each : {A : Type 0} (P : A → Type 0) {bad : ℕ → A} {go : Complex → A} (o : Operator) → Formed s o → ((r : ℕ) → r ≢ accepted → P (bad r)) →
+  formed-each : {A : Type 0} (P : A → Type 0) {bad : ℕ → A} {go : Complex → A} (o : Operator) → Formed s o → ((r : ℕ) → Refusal r → P (bad r)) →
       ((Y : Complex) → Kept o (complex p) Y → P (go Y)) → P (afterStep (step o (facesOf s o) (complex p)) bad go)
   formed-each P o F stays goes =
-      step-each P (step o (facesOf s o) (complex p)) (λ r q. stays r (step-numbered (facesOf s o) (complex p) o r q))
+      step-each P (step o (facesOf s o) (complex p)) (λ r q. stays r (step-numbered (facesOf s o) (complex p) (H .good) o r q))
       (λ S q. goes _ (edit-kept (H .good) s o F q .kept)) (λ Y q. goes Y (removal-kept (H .good) s o F q))
 
   -- what an operator leaves of a good pattern is good, accepted or refused
@@ -93,7 +92,7 @@ module _ {p : Pattern} (H : Held p) (s : List ℕ) where
   apply-moves {o} e =
       rw (sized-is (H .sized), good-is (H .good), e)
       (formed-each (λ l. l .answer .refusal ≡ accepted → Moved p (operatorLeft l) (amountOf o)) o (decoded s 0 (lone-at s e) .0)
-      (λ r n a. absurd (n a))
+      (λ r n a. absurd (n .not-0 a))
       (λ Y K a. moved H (stored-held (K .good)) (ap euler (complex-stored (K .good)) ∙ K .moved)))
 
   -- the call of a script

@@ -36,7 +36,7 @@ apply-place p s =
     let P : Lent OperatorApplied → Type 0 = λ l. Located s (l .answer .refusal) (l .answer .place) in
     good-each P (sized p) (isGood (complex p))
     (λ l g. operator-or P (loneOperator s) (lone-lies s) (λ f L. L .located) λ o next e _.
-    step-each P (step o (facesOf s o) (complex p)) (λ r q. nowhere (meaning-no-fault r (step-meant (facesOf s o) (complex p) o r q)))
+    step-each P (step o (facesOf s o) (complex p)) (λ r q. nowhere (meaning-no-fault r (step-meant (facesOf s o) (complex p) (good-true (complex-bounded p) g) o r q)))
     (λ S q. nowhere refl) (λ Y q. nowhere refl))
     (nowhere refl) (nowhere refl)
 

@@ -40,7 +40,7 @@ unfolding readCall
 write-after-read s out p =
     cond-each (Rewritten s out) (sized p)
     (λ t. mesh-each (λ (l : Lent MeshRead) (x : Unit {0}). Rewritten s out l) {bad' = λ r at. tt} {go' = λ X used. tt} s
-    (λ r at n l e. absurd (n e)) (λ X used e a room. taken-rewritten s out X used e room))
+    (λ r at n l e. absurd (n .not-0 e)) (λ X used e a room. taken-rewritten s out X used e room))
     (λ t e. absurd (omega arith))
 
 -- "reading what was written the same pattern": an accepted write, whose bytes are read into any matrices, with any bytes after them

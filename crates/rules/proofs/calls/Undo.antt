@@ -56,7 +56,7 @@ module _ {p : Pattern} (H : Held p) (s : List ℕ) (m c list next : ℕ) (form :
   split-taken =
       rw (sized-is (H .sized), good-is (H .good), form)
       (step-each (λ (l : Lent OperatorApplied). l .answer .refusal ≡ accepted → (S : ℕ → Step) × (splitting ≡ edited S)) splitting
-      (λ r q e. absurd (step-numbered _ (complex p) (Operator.Split (suc m) c list) r q e)) (λ S q e. (S, q)) (λ Y q e. absurd (split-keeps (complex p) (suc m) c _ q)))
+      (λ r q e. absurd (step-numbered _ (complex p) (H .good) (Operator.Split (suc m) c list) r q .not-0 e)) (λ S q e. (S, q)) (λ Y q e. absurd (split-keeps (complex p) (suc m) c _ q)))
 
   split-call : {S : ℕ → Step} → splitting ≡ edited S → applyCall p s ≡ handedBack (stored (layers S)) accepted noPlace
   unfolding applyCall

@@ -3,7 +3,7 @@ use mathlib.Core.Path.{_≡_, refl, sym, _∙_, ap, ap₂, subst, fun-ext}
 use mathlib.Core.Logic.{_≢_}
 use Prim.Native.Nat.{ℕ, suc, pred, _<_, _≤_}
 use native.Mathlib.Omega.{arith}
-use lib.IntN.{pos, negsuc, natAbs, negℤ, _+ℤ_, _*ℤ_, +ℤ-comm, +ℤ-invr}
+use lib.IntN.{pos, negsuc, natAbs, negℤ, _+ℤ_, _*ℤ_, +ℤ-comm}
 use Rattle.maths.specs.Tables.{Entries}
 use Rattle.maths.specs.Sums.{up}
 use Rattle.maths.proofs.Cases.{eq-or}
@@ -14,6 +14,7 @@ use Rattle.rules.specs.Good.{Good}
 use Rattle.rules.specs.Edits.{withoutRow, merged, merge}
 use Rattle.rules.proofs.layers.Frame.{Cells, frame-of, good-of}
 use Rattle.rules.proofs.accepting.Allowed.{CanMerge}
+use Rattle.rules.proofs.accepting.Shared.{sum-t, sum-units, sum-some}
 use Rattle.rules.proofs.layers.Seams.{Ends, one-not-zero, tail-at, head-at}
 use Rattle.rules.proofs.cells.Columns.{Bounds, Sound, sound-at, cells-at3, put-column}
 use Rattle.rules.proofs.edits.Merges.{same-rows, merge-frame}
@@ -67,8 +68,8 @@ module _ {k t a b : ℕ} {X : Complex} (G : Good X) (C : CanMerge k t a b X) whe
   sum-bounds : Bounds (suc k) (λ i. D i a +ℤ D i b)
   sum-bounds = record {
     seam = λ e. sum-ends t (sound-at G (suc k) .cell a low .seam e .2) (sound-at G (suc k) .cell b (C .high) .seam e .2)
-        (G .units (suc k) t a) (C .unit) (C .opposite) (C .some);
-    some = λ _. C .some;
+        (G .units (suc k) t a) (C .unit) (C .opposite) (sum-some G C);
+    some = λ _. sum-some G C;
   }
 
   kept-bounds : (j : ℕ) → j < pred (X (suc k) .n) → j ≢ a → Bounds (suc k) (λ i. D (up t i) (up b j))
@@ -78,8 +79,8 @@ module _ {k t a b : ℕ} {X : Complex} (G : Good X) (C : CanMerge k t a b X) whe
   merged-sound : Sound (suc k) (merged t a b (X (suc k)))
   unfolding merged
   merged-sound = put-column (pred (X (suc k) .n)) a (λ i. D (up t i) a +ℤ D (up t i) b) (λ i j. D (up t i) (up b j))
-      (λ i j. G .units (suc k) (up t i) (up b j)) kept-bounds (λ i. C .units (up t i))
-      (λ _. bounds-closed (λ i. D i a +ℤ D i b) t (rw (C .opposite) (+ℤ-invr (D t a))) sum-bounds)
+      (λ i j. G .units (suc k) (up t i) (up b j)) kept-bounds (λ i. sum-units G C (up t i))
+      (λ _. bounds-closed (λ i. D i a +ℤ D i b) t (sum-t G C) sum-bounds)
 
   face-merged : (j i : ℕ) → U i j ≢ pos 0 → (i : ℕ) × (U (up b i) j ≢ pos 0)
   face-merged j i n = eq-or i b (λ e. (a, rw (up-lt b a (C .less), same-rows (frame-of G) C j, ← e) n)) (face-closed (λ i. U i j) b i n)

@@ -1,21 +1,23 @@
 -- The merge at the divider of a split: it is accepted, and leaves every layer as it was before the split.
-use mathlib.Core.Path.{_≡_, refl, _∙_, fun-ext}
+use mathlib.Core.Path.{_≡_, refl, sym, _∙_, fun-ext}
+use mathlib.Core.Logic.{_≢_}
 use mathlib.Core.Bool.{Bool}
 use Prim.Native.Nat.{ℕ, suc, _<_}
 use native.Mathlib.Omega.{arith}
 use borrow.Author.Tests.{lt-ltb}
-use lib.IntN.{ℤ, _+ℤ_}
+use lib.IntN.{ℤ, pos, _+ℤ_}
 use Rattle.maths.specs.Sums.{up}
-use Rattle.maths.proofs.Cases.{eq-or}
+use Rattle.maths.proofs.Cases.{eq-or, no-eq}
 use Rattle.maths.proofs.Sums.{up-lt, up-no, up-other, up-end}
 use Rattle.rules.specs.Complex.{Layer, Complex, Chain}
 use Rattle.rules.specs.Good.{Good}
 use Rattle.rules.specs.Edits.{layers, at3, put, divider, halves, repeated, split, withoutColumn, withoutRow, merged, merge}
 use Rattle.rules.specs.Operators.{removed, mergeStep}
-use Rattle.rules.proofs.layers.Changes.{at3-0, at3-1, at3-2, at3-no, at3-each, put-same, put-no}
+use Rattle.rules.proofs.layers.Changes.{at3-0, at3-1, at3-2, at3-no, at3-each, put-same, put-no, part-each, rest-each}
 use Rattle.rules.proofs.layers.Frame.{face-below, same-layer, within-rows}
 use Rattle.rules.proofs.layers.Judged.{one-each-is, proper-is}
 use Rattle.rules.proofs.accepting.Allowed.{CanSplit}
+use Rattle.rules.proofs.accepting.Shared.{share-only-is}
 use Rattle.rules.proofs.edits.Fitted.{layers-at3}
 use Rattle.rules.proofs.layers.Seams.{Ends, one-each-of}
 use Rattle.rules.proofs.accepting.Sides.{head-first, higher-is, lower-is}
@@ -73,6 +75,14 @@ module _ {m s : ℕ} {p : ℕ → Bool} {X : Complex} (G : Good X) (C : CanSplit
   sum-is : (i : ℕ) → Y (suc m) .d i s +ℤ Y (suc m) .d i (D .n) ≡ D .d i s
   sum-is i = rw (at-s, at-s') (halves-sum s p L D (no-row G C) i)
 
+  -- the two halves share the divider alone: each other face is in the chosen part or in the rest
+  halves-share : (i : ℕ) → i ≢ L .n → Y (suc m) .d i s ≢ pos 0 → Y (suc m) .d i (D .n) ≡ pos 0
+  halves-share i n f =
+      let v : Chain = λ i. D .d i s in
+      at-s' i ∙ put-no (L .n) _ _ i n ∙ part-each p v (λ z. z ≡ pos 0) i
+      (λ q. absurd (f (at-s i ∙ put-no (L .n) _ _ i n ∙ rest-each p v (λ z. z ≡ pos 0) i (λ _. refl) (λ r. no-eq (sym r ∙ q)))))
+      (λ _. refl)
+
   pub merge-accepted : mergeStep m (X m .n) (layers (split m s p X)) ≡ removed (merge m (X m .n) s (X (suc m) .n) (layers (split m s p X)))
   unfolding mergeStep
   merge-accepted =
@@ -84,6 +94,7 @@ module _ {m s : ℕ} {p : ℕ → Bool} {X : Complex} (G : Good X) (C : CanSplit
         higher-is S,
         lt-ltb (L .n) (Y m .n) t,
         one-each-is _ (one-each-of row),
+        share-only-is (L .n) (λ i. Y (suc m) .d i s) (λ i. Y (suc m) .d i (D .n)) halves-share,
         fun-ext sum-is,
         proper-is (λ i. D .d i s) (λ i _. G .units (suc m) i s) (f .0) (face-below (within-rows G m s) (f .0) (f .1)) (f .1),
       )

@@ -70,7 +70,6 @@ module _ {X : Complex} (G : Good X) (s : List ℕ) where
       rw (a .1) (record { good = good-killed G (a .0); moved = kill-euler (a .0) })
   removal-kept (Split k c list) h e = absurd (split-keeps X k c _ e)
   removal-kept (Merge k t) h e =
-      let a = merge-condition G k t h e in
-      let C = a .2 in
-      rw (a .3) (record { good = good-merged G C; moved = merge-euler C })
+      let a = merge-condition G k t e in
+      rw (a .1) (record { good = good-merged G (a .0); moved = merge-euler (a .0) })
   removal-kept (Flip k c) h e = absurd (flip-keeps X k c e)

@@ -1,7 +1,6 @@
 -- What the mesh reader accepts is good, and what it refuses has a number that is not 0 and, if it is a fault, the fault's place.
 use mathlib.Core.Path.{_≡_, refl, sym, _∙_}
 use mathlib.Core.Bool.{true, false}
-use mathlib.Core.Logic.{_≢_}
 use mathlib.Core.List.{List}
 use Prim.Native.Nat.{ℕ, zero, suc, _+_, _*_, _<_, _≤_}
 use native.Mathlib.Omega.{arith}
@@ -9,14 +8,14 @@ use lib.IntN.{pos}
 use Rattle.maths.specs.Repeat.{repeat}
 use Rattle.maths.proofs.Cases.{no-eq}
 use Rattle.maths.proofs.Dots.{dot-0-l}
-use Rattle.rules.specs.Refusals.{accepted, noPlace}
+use Rattle.rules.specs.Refusals.{noPlace}
 use Rattle.rules.specs.Complex.{Complex}
 use Rattle.rules.specs.Good.{Good}
 use Rattle.rules.specs.Operators.{step}
 use Rattle.rules.specs.Form.{byteAt, makeAt, facesOf, faultNumber, faultPlace, isFault}
 use Rattle.rules.specs.Mesh.{Reading, faulty, refused, taken, Place, corners, readCell, readSection, readMesh, afterReading}
 use Rattle.rules.proofs.branches.Branches.{step-each}
-use Rattle.rules.proofs.branches.Numbers.{byMeaning, meaning-numbered, meaning-no-fault, step-meant, fault-numbered}
+use Rattle.rules.proofs.branches.Numbers.{Refusal, byMeaning, meaning-numbered, meaning-no-fault, step-meant, fault-numbered}
 use Rattle.rules.proofs.bytes.Faults.{Located, nowhere, Lies, further, field-or, operator-or, byte-lies, make-lies}
 use Rattle.rules.proofs.bytes.Decoded.{made}
 use Rattle.rules.proofs.scripts.Steps.{edit-kept, removal-kept}
@@ -69,7 +68,7 @@ module _ (s : List ℕ) where
   cells-sound k d end go h then (suc n) at l x G a =
       operator-or (Sound s) (makeAt s k (x .1)) (make-lies s k (x .1)) (λ f. further (omega arith)) λ o next e near.
       let F = made s (x .1) k d e .1 in
-      step-each (Sound s) (step o (facesOf s o) (x .0)) (step-meant (facesOf s o) (x .0) o)
+      step-each (Sound s) (step o (facesOf s o) (x .0)) (step-meant (facesOf s o) (x .0) G o)
       (λ S q. cells-sound k d end go h then n (at + 193) (omega arith) _ (edit-kept G s o F q .kept .good) (omega arith))
       (λ Y q. cells-sound k d end go h then n (at + 193) (omega arith) _ (removal-kept G s o F q .good) (omega arith))
 
@@ -99,7 +98,7 @@ pub record MeshPlace (s : List ℕ) (r at : ℕ) : Type 0 where
 
 -- two things that follow the reading of a mesh, case by case
 module _ {A B : Type 0} (P : A → B → Type 0) {bad : ℕ → ℕ → A} {go : Complex → ℕ → A} {bad' : ℕ → ℕ → B} {go' : Complex → ℕ → B} where
-  sound-each : (s : List ℕ) (x : Reading) → Sound s x → ((r at : ℕ) → r ≢ accepted → MeshPlace s r at → P (bad r at) (bad' r at)) →
+  sound-each : (s : List ℕ) (x : Reading) → Sound s x → ((r at : ℕ) → Refusal r → MeshPlace s r at → P (bad r at) (bad' r at)) →
       ((X : Complex) (used : ℕ) → x ≡ taken X used → P (go X used) (go' X used)) → P (afterReading x bad go) (afterReading x bad' go')
   sound-each s (faulty f) L h k = h (faultNumber f) (faultPlace f) (fault-numbered f) (record { located = L .located; near = λ _. L .near })
   sound-each s (refused r) n h k =
@@ -107,7 +106,7 @@ module _ {A B : Type 0} (P : A → B → Type 0) {bad : ℕ → ℕ → A} {go :
       h r noPlace (meaning-numbered r n) (record { located = nowhere no; near = λ yes. no-eq (sym no ∙ yes) })
   sound-each s (taken X used) n h k = k X used refl
 
-  pub mesh-each : (s : List ℕ) → ((r at : ℕ) → r ≢ accepted → MeshPlace s r at → P (bad r at) (bad' r at)) →
+  pub mesh-each : (s : List ℕ) → ((r at : ℕ) → Refusal r → MeshPlace s r at → P (bad r at) (bad' r at)) →
       ((X : Complex) (used : ℕ) → readMesh s ≡ taken X used → P (go X used) (go' X used)) →
       P (afterReading (readMesh s) bad go) (afterReading (readMesh s) bad' go')
   mesh-each s = sound-each s (readMesh s) (read-sound s)

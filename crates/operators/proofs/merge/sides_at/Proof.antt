@@ -1,7 +1,7 @@
 -- `operators::merge::sides_at` meets its contract: matrix 1, 2 or 3 has the row of a corner, a seam or a panel.
 use mathlib.Core.Path.{_≡_}
 use native.Mathlib.Omega.{arith}
-use Rattle.operators.proofs.patterns.Patterns.{unit1, unit2, unit3}
+use Rattle.operators.proofs.patterns.Patterns.{unit1, unit2, unit3, unit-line}
 use Rattle.operators.proofs.merge.sides_at.Statement.{statement}
 use Rattle.operators.proofs.merge.sides_at.Tie as tie
 
@@ -15,9 +15,9 @@ pub sides-at-spec : {M : Type 1} → statement M
 sides-at-spec =
     tie.close
     (tie.spec
-    (λ c κs. unit1 (c .before .pre))
-    (λ c κs. unit2 (c .before .pre))
-    (λ c κs. unit3 (c .before .pre))
+    (λ c κs. unit-line (unit1 (c .before .pre)))
+    (λ c κs. unit-line (unit2 (c .before .pre)))
+    (λ c κs. unit-line (unit3 (c .before .pre)))
     (λ c. rw (c .before .match .keys1) (c .sides-in .ensures))
     (λ c. rw (c .before .match .keys2) (c .sides-in2 .ensures))
     returns-3)

@@ -1,52 +1,55 @@
--- `operators::merge::sides_in` meets its contract: its tests are those of the definition in their order, and the two places are the last two of the row.
-use mathlib.Core.Path.{sym, _∙_}
+-- `operators::merge::sides_in` meets its contract: its tests are told in the order of the definition, and the two places are the last two of the row.
+use mathlib.Core.Path.{_≡_, sym, _∙_}
+use mathlib.Core.Bool.{true}
 use native.Mathlib.Omega.{arith}
 use borrow.Author.Needs.{needs}
 use borrow.Author.Tests.{not-true, not-false}
 use denote.Ref.{now}
 use Rattle.maths.specs.Tables.{entries}
-use Rattle.operators.proofs.merge.Rows.{not-between, last-low, Places, places-met, wrong-sum, sides-found}
+use Rattle.rules.specs.Good.{oneEach}
+use Rattle.operators.proofs.merge.Rows.{Places, last-low, first-low, second-low, not-between, shared-face, sides-found}
 use Rattle.operators.proofs.merge.sides_in.Statement.{statement}
 use Rattle.operators.proofs.merge.sides_in.Tie as tie
 
-returns : tie.Need-returns
-returns c = not-between _ _ (sym (c .before .is-between .ensures) ∙ not-true _ (c .if1 .taken))
-
 row-last-requires-2 : tie.Need-row-last-requires-2
 row-last-requires-2 c κs =
-    let t = c .before in
-    let s = t .before .before in
-    let l = last-low _ (sym (t .before .is-between .ensures) ∙ not-false _ (t .if1 .left)) (c .row-last .ensures) in
+    let s = c .before .before in
+    let l = last-low (entries (now (s .args .d))) (s .args .t) (c .row-last .ensures) in
     record { size = s .pre .size; inside = s .pre .inside; upto = omega arith }
 
-abbrev start : tie.After-row-last2 → tie.Start
-start second = second .before .before .before .before
-
 -- the two places
-places : (c : tie.After-row-last2) → let s = start c in
-    Places (entries (now (s .args .d))) (s .args .t) (c .row-last2 .result) (c .before .row-last .result)
-places c =
-    let t = c .before .before in
-    record {
-      both = sym (t .before .is-between .ensures) ∙ not-false _ (t .if1 .left);
-      last-is = c .before .row-last .ensures;
-      first-is = c .row-last2 .ensures;
-    }
+abbrev start : tie.After-row-last2 → tie.Start
+start second = second .before .before .before
 
-is-proper-sum-requires : tie.Need-is-proper-sum-requires
-is-proper-sum-requires c κs =
-    let s = start c in
-    let m = places-met (places c) in
-    record { size = s .pre .size; first = omega (arith, m .less, m .high); second = m .high; units = s .pre .units }
+places : (c : tie.After-row-last2) → Places (entries (now (start c .args .d))) (start c .args .t) (c .row-last2 .result) (c .before .row-last .result)
+places c = record { last-is = c .before .row-last .ensures; first-is = c .row-last2 .ensures }
+
+share-only-requires : tie.Need-share-only-requires
+share-only-requires c κs =
+    record { size = start c .pre .size; first = first-low (places c); second = second-low (places c) }
+
+returns : tie.Need-returns
+returns c =
+    let second = c .before .before in
+    let test = second .before .before in
+    not-between (places second) (sym (test .is-between .ensures) ∙ not-true _ (c .if1 .taken))
+
+-- past the first test
+between : (c : tie.Else1) → let s = start (c .before .before) in oneEach (λ j. entries (now (s .args .d)) (s .args .t) j) ≡ true
+between c =
+    let test = c .before .before .before .before in
+    sym (test .is-between .ensures) ∙ not-false _ (c .if1 .left)
 
 pub sides-in-spec : {M : Type 1} → statement M
 sides-in-spec =
     tie.close
     (tie.spec
     (λ c κs. search needs)
-    returns
     (λ c κs. search needs)
     row-last-requires-2
-    is-proper-sum-requires
-    (λ c. wrong-sum (places (c .before .before)) (sym (c .before .is-proper-sum .ensures) ∙ not-true _ (c .if2 .taken)))
-    (λ c. sides-found (places (c .before .before)) (sym (c .before .is-proper-sum .ensures) ∙ not-false _ (c .if2 .left))))
+    share-only-requires
+    returns
+    (λ c. let alone = c .before .before in
+    shared-face (places (alone .before)) (between (c .before)) (sym (alone .share-only .ensures) ∙ not-true _ (c .if2 .taken)))
+    (λ c. let alone = c .before .before in
+    sides-found (places (alone .before)) (between (c .before)) (sym (alone .share-only .ensures) ∙ not-false _ (c .if2 .left))))
