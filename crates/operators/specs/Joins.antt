@@ -1,10 +1,11 @@
 -- Merge in the one matrix that has the cell's row: what is tested there, and what it then holds.
 use mathlib.Core.Path.{_≡_}
-use mathlib.Core.Bool.{cond}
+use mathlib.Core.Bool.{Bool, not, cond, _||_}
 use mathlib.Core.List.{List}
 use Prim.Native.Nat.{ℕ, suc, _<_}
 use lib.IntN.{ℤ}
 use lib.ListN.{length}
+use Rattle.maths.specs.Tests.{isZero, count}
 use Rattle.maths.specs.Tables.{Entries}
 use Rattle.grid.specs.Grid.{Units}
 use Rattle.rules.specs.Refusals.{notBetween, sharedFace}
@@ -17,6 +18,13 @@ use Rattle.operators.specs.declared.merge.Sides.{Sides}
 -- column a
 abbrev pub columnOf : Entries → ℕ → Chain
 columnOf f a i = f i a
+
+-- how many faces columns a and b share
+abbrev pub both : ℤ → ℤ → Bool
+both x y = not (isZero x || isZero y)
+
+unfoldable pub sharedBy : Entries → ℕ → ℕ → ℕ
+sharedBy f a b = count 96 (λ i. both (f i a) (f i b))
 
 -- the two cells that cell t lies between, the lower first; 11 or 20 where it is none that merges them
 unfoldable pub sidesOf : Entries → ℕ → Sides

@@ -7,11 +7,11 @@ ghost use Rattle.rules.specs.Counts.{shrunkAt};
 ghost use Rattle.rules.specs.Complex.{complex, stored, layer};
 ghost use Rattle.rules.specs.Good.{oneEach, Held};
 ghost use Rattle.rules.specs.Edits.{merged, merge};
-ghost use Rattle.rules.specs.Operators.{shareOnly, mergeStep};
+ghost use Rattle.rules.specs.Operators.{mergeStep};
 ghost use Rattle.rules.specs.Calls.{applied};
 ghost use Rattle.rules.specs.Lending.{asLent, atEntry, atExit, left};
 ghost use Rattle.operators.specs.Cells.{Dimension, Cell};
-ghost use Rattle.operators.specs.Joins.{columnOf, sidesOf, Apart, Between};
+ghost use Rattle.operators.specs.Joins.{both, sharedBy, sidesOf, Apart, Between};
 use grid::byte::is_zero8;
 use grid::changes::add_column;
 use grid::removals::remove_column;
@@ -40,18 +40,25 @@ fn is_between(d: &[i8], t: usize) -> bool
     row_times(d, t, -1) == 1 && row_times(d, t, 1) == 1
 }
 
-// Whether columns a and b share no face besides t. All rows are looked at, which is faster than to stop at one.
-fn share_only(d: &[i8], t: usize, a: usize, b: usize) -> bool
+// Whether neither entry is 0.
+fn both8(x: i8, y: i8) -> bool
+    ensures { λ r. ⌜ r ≡ both x y ⌝ }
+{
+    !(is_zero8(x) | is_zero8(y))
+}
+
+// How many faces columns a and b share.
+fn shared(d: &[i8], a: usize, b: usize) -> u8
     requires { ⌜ Lines (now d) a b ⌝ }
-    ensures { λ r. ⌜ r ≡ shareOnly t (columnOf (entries (now (d .entry))) a) (columnOf (entries (now (d .entry))) b) ⌝ }
+    ensures { λ r. ⌜ r ≡ sharedBy (entries (now (d .entry))) a b ⌝ }
 {
     let p = SIDE * a;
     let q = SIDE * b;
-    let mut alone = true;
+    let mut found: u8 = 0;
     for i in 0..SIDE {
-        alone = alone & ((i == t) | is_zero8(d[p + i]) | is_zero8(d[q + i]));
+        found += both8(d[p + i], d[q + i]) as u8;
     }
-    alone
+    found
 }
 
 // The cells that cell t lies between, in the matrix that has its row.
@@ -62,7 +69,8 @@ fn sides_in(d: &[i8], t: usize) -> Sides
     let between = is_between(d, t);
     let b = row_last(d, t, SIDE);
     let a = row_last(d, t, b);
-    let alone = share_only(d, t, a, b);
+    // where t lies between them, t is one face that they share
+    let alone = shared(d, a, b) == 1;
     if !between {
         return Sides::Refused(NOT_BETWEEN);
     }

@@ -38,7 +38,7 @@ abbrev pub notBetween : ℕ
 notBetween = 11  -- merge: not exactly two non-zero entries of opposite sign
 
 abbrev pub wrongSum : ℕ
-wrongSum = 12  -- merge: the sum leaves -1 to 1, or is all 0
+wrongSum = 12  -- merge: the sum leaves -1 to 1, or is all 0; no call ever answers it
 
 abbrev pub stale : ℕ
 stale = 13  -- base counts differ from the pattern's

@@ -10,7 +10,7 @@ use lib.IntN.{ℤ, pos, natAbs, _+ℤ_, _*ℤ_, +ℤ-idl, +ℤ-idr, +ℤ-invr, *
 use Rattle.maths.specs.Tests.{isZero}
 use Rattle.maths.specs.Sums.{δ}
 use Rattle.maths.proofs.Integers.{*ℤ-assoc, one-*ℤ, *ℤ-1}
-use Rattle.maths.proofs.Cases.{eq-or, lt-or, bool-or}
+use Rattle.maths.proofs.Cases.{eq-or, bool-or}
 use Rattle.maths.proofs.Tests.{zero-is, zero-true, zero-false, not-zero, all-at, all-of}
 use Rattle.maths.proofs.Sums.{δ-same, δ-no}
 use Rattle.maths.proofs.Dots.{dot-same, dot-*front, dot-δ-r}
@@ -19,7 +19,7 @@ use Rattle.rules.specs.Good.{Good, allZero}
 use Rattle.rules.specs.Edits.{put}
 use Rattle.rules.specs.Operators.{proper, shareOnly}
 use Rattle.rules.proofs.layers.Changes.{put-same, put-no}
-use Rattle.rules.proofs.layers.Frame.{face-below, within-rows}
+use Rattle.rules.proofs.layers.Frame.{Within, face-below, within-rows}
 use Rattle.rules.proofs.layers.Judged.{all-zero-at, some-entry, proper-is}
 use Rattle.rules.proofs.layers.Seams.{minus-not-zero, one-not-zero}
 use Rattle.rules.proofs.accepting.Allowed.{CanMerge}
@@ -100,8 +100,8 @@ module _ {k t a b : ℕ} {X : Complex} (G : Good X) (C : CanMerge k t a b X) whe
   pub sum-some : (i : ℕ) × (low i +ℤ high i ≢ pos 0)
   sum-some = let f = another-face G k t a (C .cell) (omega (arith, C .less, C .high)) (C .unit) in (f .0, low-kept (f .0) (f .1) (f .2))
 
+  sum-within : Within 96 (λ i. low i +ℤ high i)
+  sum-within i h = rw (within-rows G k a i h, within-rows G k b i h)
+
   pub sum-proper : proper (λ i. low i +ℤ high i) ≡ true
-  sum-proper =
-      let f = sum-some in
-      let h : f .0 < 96 = lt-or (f .0) 96 (λ l. l) (λ l. absurd (f .1 (rw (within-rows G k a (f .0) l, within-rows G k b (f .0) l)))) in
-      proper-is (λ i. low i +ℤ high i) (λ i _. sum-units i) (f .0) h (f .1)
+  sum-proper = let f = sum-some in proper-is (λ i. low i +ℤ high i) (λ i _. sum-units i) (f .0) (face-below sum-within (f .0) (f .1)) (f .1)

@@ -14,15 +14,15 @@ use Rattle.rules.specs.Good.{Good}
 use Rattle.rules.specs.Edits.{layers, at3, put, divider, halves, repeated, split, withoutColumn, withoutRow, merged, merge}
 use Rattle.rules.specs.Operators.{removed, mergeStep}
 use Rattle.rules.proofs.layers.Changes.{at3-0, at3-1, at3-2, at3-no, at3-each, put-same, put-no, part-each, rest-each}
-use Rattle.rules.proofs.layers.Frame.{face-below, same-layer, within-rows}
-use Rattle.rules.proofs.layers.Judged.{one-each-is, proper-is}
+use Rattle.rules.proofs.layers.Frame.{same-layer}
+use Rattle.rules.proofs.layers.Judged.{one-each-is}
 use Rattle.rules.proofs.accepting.Allowed.{CanSplit}
 use Rattle.rules.proofs.accepting.Shared.{share-only-is}
+use Rattle.rules.proofs.accepting.Accepted.{merge-step-is}
 use Rattle.rules.proofs.edits.Fitted.{layers-at3}
 use Rattle.rules.proofs.layers.Seams.{Ends, one-each-of}
 use Rattle.rules.proofs.accepting.Sides.{head-first, higher-is, lower-is}
-use Rattle.rules.proofs.cells.Columns.{bounds-face, sound-at}
-use Rattle.rules.proofs.cells.SplitCells.{outer, inner, halves-columns, halves-sum, no-row}
+use Rattle.rules.proofs.cells.SplitCells.{outer, inner, halves-columns, halves-sum, no-row, good-split}
 
 -- a chain with x at a and y at b, where x + y was at a: their sum at a, and b closed up
 put-back : (a b : ℕ) (x y : ℤ) (c : Chain) → a < b → x +ℤ y ≡ c a → (j : ℕ) →
@@ -72,9 +72,6 @@ module _ {m s : ℕ} {p : ℕ → Bool} {X : Complex} (G : Good X) (C : CanSplit
     only = λ j e f. entry (L .n) j ∙ put-no s _ _ j f ∙ put-no (D .n) _ _ j e ∙ no-row G C j;
   }
 
-  sum-is : (i : ℕ) → Y (suc m) .d i s +ℤ Y (suc m) .d i (D .n) ≡ D .d i s
-  sum-is i = rw (at-s, at-s') (halves-sum s p L D (no-row G C) i)
-
   -- the two halves share the divider alone: each other face is in the chosen part or in the rest
   halves-share : (i : ℕ) → i ≢ L .n → Y (suc m) .d i s ≢ pos 0 → Y (suc m) .d i (D .n) ≡ pos 0
   halves-share i n f =
@@ -84,19 +81,16 @@ module _ {m s : ℕ} {p : ℕ → Bool} {X : Complex} (G : Good X) (C : CanSplit
       (λ _. refl)
 
   pub merge-accepted : mergeStep m (X m .n) (layers (split m s p X)) ≡ removed (merge m (X m .n) s (X (suc m) .n) (layers (split m s p X)))
-  unfolding mergeStep
   merge-accepted =
       let S = head-first row (C .cell) in
-      let f = bounds-face m (sound-at G (suc m) .cell s (C .cell)) in
       let t : L .n < Y m .n = rw below (omega arith) in
       rw (
+        merge-step-is (good-split G C) m (L .n),
         lower-is S,
         higher-is S,
         lt-ltb (L .n) (Y m .n) t,
         one-each-is _ (one-each-of row),
         share-only-is (L .n) (λ i. Y (suc m) .d i s) (λ i. Y (suc m) .d i (D .n)) halves-share,
-        fun-ext sum-is,
-        proper-is (λ i. D .d i s) (λ i _. G .units (suc m) i s) (f .0) (face-below (within-rows G m s) (f .0) (f .1)) (f .1),
       )
 
   lower-back : withoutColumn (L .n) (divider s p L D) ≡ L

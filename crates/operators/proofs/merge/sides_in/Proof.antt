@@ -24,8 +24,8 @@ start second = second .before .before .before
 places : (c : tie.After-row-last2) → Places (entries (now (start c .args .d))) (start c .args .t) (c .row-last2 .result) (c .before .row-last .result)
 places c = record { last-is = c .before .row-last .ensures; first-is = c .row-last2 .ensures }
 
-share-only-requires : tie.Need-share-only-requires
-share-only-requires c κs =
+shared-requires : tie.Need-shared-requires
+shared-requires c κs =
     record { size = start c .pre .size; first = first-low (places c); second = second-low (places c) }
 
 returns : tie.Need-returns
@@ -47,9 +47,9 @@ sides-in-spec =
     (λ c κs. search needs)
     (λ c κs. search needs)
     row-last-requires-2
-    share-only-requires
+    shared-requires
     returns
-    (λ c. let alone = c .before .before in
-    shared-face (places (alone .before)) (between (c .before)) (sym (alone .share-only .ensures) ∙ not-true _ (c .if2 .taken)))
-    (λ c. let alone = c .before .before in
-    sides-found (places (alone .before)) (between (c .before)) (sym (alone .share-only .ensures) ∙ not-false _ (c .if2 .left))))
+    (λ c. let counted = c .before .before in
+    shared-face (places (counted .before)) (between (c .before)) (start (counted .before) .pre .inside) (counted .shared .ensures) (not-true _ (c .if2 .taken)))
+    (λ c. let counted = c .before .before in
+    sides-found (places (counted .before)) (between (c .before)) (start (counted .before) .pre .inside) (counted .shared .ensures) (not-false _ (c .if2 .left))))
