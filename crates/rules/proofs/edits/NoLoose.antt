@@ -22,7 +22,7 @@ pub record NoLoose (k t a b : ℕ) (X Y : Complex) : Type 0 where
   -- every face of the two cells but t is a face of the merged one
   pub low : (i : ℕ) → IsFace X (suc k) (up t i) a → IsFace Y (suc k) i a
   pub high : (i : ℕ) → IsFace X (suc k) (up t i) b → IsFace Y (suc k) i a
-  -- so every cell but t that was a face of some cell still is one
+  -- so every cell of the dimension of t, but t, that was a face of some cell still is one
   pub used : (i j : ℕ) → IsFace X (suc k) (up t i) j → (j : ℕ) × IsFace Y (suc k) i j
 
 module _ {k t a b : ℕ} {X : Complex} (G : Good X) (C : CanMerge k t a b X) where

@@ -1,4 +1,4 @@
--- What the mesh reader accepts is good, and what it refuses has a number that is not 0 and, if it is a fault, the fault's place.
+-- What the mesh reader accepts is good, and what it refuses has the number of a refusal and, if it is a fault, the fault's place.
 use mathlib.Core.Path.{_≡_, refl, sym, _∙_}
 use mathlib.Core.Bool.{true, false}
 use mathlib.Core.List.{List}
