@@ -1,4 +1,5 @@
 // Putting bytes into a lent buffer.
+#![tactic(auto)]
 ghost use Rattle.std.specs.Prelude.{[], ◌∷◌};
 ghost use Rattle.maths.specs.Buffers.{Fits, Put};
 

@@ -1,5 +1,6 @@
 // The program on many inputs, at most 65,536: each is a length in three bytes, low first, and that many bytes, at most 65,536. What is printed for one
 // follows what is printed for the one before, and a greater length ends the run.
+#![tactic(auto)]
 ghost use Rattle.std.specs.Prelude.{◌≤◌, length};
 ghost use Rattle.rules.specs.Complex.{Sized, counts_of, empty};
 ghost use Rattle.rules.specs.Lending.{as_lent};

@@ -15,7 +15,7 @@ use rules::form::OperatorForm;
 use rules::refusals::{ACCEPTED, NO_PLACE};
 
 // After one operator: the counts, the place after it, its refusal, and the place of a fault.
-#[derive(Drop)]
+#[derive(Clone, Copy)]
 struct OneRun {
     counts: Counts,
     next: usize,

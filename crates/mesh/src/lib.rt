@@ -1,4 +1,5 @@
 // Reading and writing a mesh.
+#![tactic(auto)]
 mod cells;
 pub mod part;
 pub mod reader;

@@ -7,7 +7,7 @@ use rules::counts::Counts;
 use rules::form::Fault;
 
 // The counts and the next place; or the refusal, and the place of a fault.
-#[derive(Drop)]
+#[derive(Clone, Copy)]
 pub struct Part {
     pub counts: Counts,
     pub next: usize,

@@ -2,14 +2,14 @@
 use rules::counts::Counts;
 
 // Importing: the counts.
-#[derive(Drop)]
+#[derive(Clone, Copy)]
 pub struct Imported {
     pub counts: Counts,
     pub refusal: u8,
 }
 
 // Exporting: how many bytes were written.
-#[derive(Drop)]
+#[derive(Clone, Copy)]
 pub struct Exported {
     pub written: usize,
     pub refusal: u8,

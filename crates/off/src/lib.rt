@@ -1,4 +1,5 @@
 // OFF texts in and out.
+#![tactic(auto)]
 pub mod answers;
 mod ends;
 mod lengths;

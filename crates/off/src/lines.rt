@@ -10,14 +10,14 @@ use crate::words::{Number, Signed, coordinate, natural, skip_blanks};
 use maths::SIDE;
 
 // The place after the corners; or none.
-#[derive(Drop)]
+#[derive(Clone, Copy)]
 pub enum CornersRead {
     None,
     Found(usize),
 }
 
 // A ring: whether its corners are below their count, how many they are, and the place after them; or none.
-#[derive(Drop)]
+#[derive(Clone, Copy)]
 pub enum RingRead {
     None,
     Found(bool, usize, usize),

@@ -12,7 +12,7 @@ use rules::counts::Counts;
 use rules::refusals::{ACCEPTED, NO_SUCH_CELL, NOT_CLOSED};
 
 // What sewing came to, and the place after the rings, if they were found.
-#[derive(Drop)]
+#[derive(Clone, Copy)]
 pub struct PanelsRead {
     pub found: bool,
     pub counts: Counts,

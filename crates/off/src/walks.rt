@@ -13,7 +13,7 @@ use grid::tests::column_count;
 use maths::SIDE;
 
 // Whether every panel is one ring, and then how long their lines are.
-#[derive(Drop)]
+#[derive(Clone, Copy)]
 pub struct Measured {
     pub plain: bool,
     pub length: usize,

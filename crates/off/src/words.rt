@@ -4,14 +4,14 @@ ghost use Rattle.off.specs.Words.{is_blank, is_digit, word_ends, the_digits, num
 ghost use Rattle.off.specs.Reading.{number_found, coordinate_found, Skipped, IsLimited};
 
 // A number of at most seven digits, and the place after it; or none.
-#[derive(Drop)]
+#[derive(Clone, Copy)]
 pub enum Number {
     None,
     Found(u32, usize),
 }
 
 // A coordinate, and the place after it; or none.
-#[derive(Drop)]
+#[derive(Clone, Copy)]
 pub enum Signed {
     None,
     Found(i32, usize),

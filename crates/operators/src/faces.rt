@@ -4,7 +4,7 @@ ghost use Rattle.rules.specs.Form.{sign_of, made_of};
 ghost use Rattle.operators.specs.Column.{FaceForm, IsFace, AddableAt, Drawable, Drawn, MakeForm};
 
 // One listed face.
-#[derive(Drop)]
+#[derive(Clone, Copy)]
 struct Face {
     number: usize,
     sign: i8,

@@ -1,4 +1,5 @@
 // The five operators on a good pattern.
+#![tactic(auto)]
 mod append;
 mod chosen;
 mod divider;

@@ -22,7 +22,7 @@ use rules::counts::Counts;
 use rules::refusals::{ACCEPTED, NO_SUCH_CELL, NOT_BETWEEN, SHARED_FACE};
 
 // The two cells that a cell lies between, the lower first, or why they cannot be merged.
-#[derive(Drop)]
+#[derive(Clone, Copy)]
 enum Sides {
     Cells(usize, usize),
     Refused(u8),

@@ -1,4 +1,5 @@
 // The program: a mesh followed by a script is read from standard input, and the printed result is written.
+#![tactic(auto)]
 use maths::SIZE;
 use printing::{print, read_input};
 

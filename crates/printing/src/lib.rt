@@ -1,4 +1,5 @@
 // The printed result of one input, written to standard output; reads and writes that fail.
+#![tactic(auto)]
 ghost use Rattle.std.specs.Prelude.{◌≤◌, length};
 ghost use Rattle.rules.specs.Complex.{Sized, counts_of, empty};
 ghost use Rattle.rules.specs.Lending.{as_lent};
@@ -10,7 +11,7 @@ mod pieces;
 mod run;
 
 // How many bytes were read, and whether reading ended since a read failed.
-#[derive(Drop)]
+#[derive(Clone, Copy)]
 pub struct InputRead {
     pub n: usize,
     pub failed: bool,

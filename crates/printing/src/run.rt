@@ -10,7 +10,7 @@ use rules::counts::Counts;
 use rules::refusals::ACCEPTED;
 
 // The refusal of the mesh; then how its script ended, the place of a fault in either, the counts and the Euler number.
-#[derive(Drop)]
+#[derive(Clone, Copy)]
 pub struct InputRun {
     pub mesh: u8,
     pub ran: u16,

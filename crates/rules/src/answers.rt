@@ -3,7 +3,7 @@
 use crate::counts::Counts;
 
 // Reading a mesh: the counts, and how many bytes it took.
-#[derive(Drop)]
+#[derive(Clone, Copy)]
 pub struct MeshRead {
     pub counts: Counts,
     pub used: usize,
@@ -12,28 +12,28 @@ pub struct MeshRead {
 }
 
 // Writing a mesh: how many bytes were written.
-#[derive(Drop)]
+#[derive(Clone, Copy)]
 pub struct MeshWritten {
     pub written: usize,
     pub refusal: u8,
 }
 
 // The Euler number.
-#[derive(Drop)]
+#[derive(Clone, Copy)]
 pub struct EulerNumber {
     pub number: i16,
     pub refusal: u8,
 }
 
 // An operator that was read: the counts after it.
-#[derive(Drop)]
+#[derive(Clone, Copy)]
 pub struct Applied {
     pub counts: Counts,
     pub refusal: u8,
 }
 
 // The bytes of one operator: the counts after it.
-#[derive(Drop)]
+#[derive(Clone, Copy)]
 pub struct OperatorApplied {
     pub counts: Counts,
     pub refusal: u8,
@@ -41,7 +41,7 @@ pub struct OperatorApplied {
 }
 
 // A script: the counts after it, and how many operators were accepted.
-#[derive(Drop)]
+#[derive(Clone, Copy)]
 pub struct ScriptRun {
     pub counts: Counts,
     pub ran: u16,
@@ -50,7 +50,7 @@ pub struct ScriptRun {
 }
 
 // A chain carried through the bytes of one operator.
-#[derive(Drop)]
+#[derive(Clone, Copy)]
 pub struct ChainCarried {
     pub refusal: u8,
     pub place: u32,

@@ -2,7 +2,7 @@
 use crate::operator::Operator;
 
 // The first fault in byte order, with its place: the bytes end, a field is wrong, bytes are left over.
-#[derive(Drop)]
+#[derive(Clone, Copy)]
 pub enum Fault {
     Ends(usize),
     Wrong(usize),
@@ -10,14 +10,14 @@ pub enum Fault {
 }
 
 // A number that was read, or the fault.
-#[derive(Drop)]
+#[derive(Clone, Copy)]
 pub enum Field {
     Got(usize),
     Bad(Fault),
 }
 
 // What a code byte says: kind and dimension.
-#[derive(Drop)]
+#[derive(Clone, Copy)]
 pub enum Code {
     Make(u8),
     Kill(u8),
@@ -28,14 +28,14 @@ pub enum Code {
 }
 
 // An entry of a rising list: the least number that may follow, and the place after the entry.
-#[derive(Drop)]
+#[derive(Clone, Copy)]
 pub enum EntryForm {
     Entry(usize, usize),
     Bad(Fault),
 }
 
 // An operator, and the place after it.
-#[derive(Drop)]
+#[derive(Clone, Copy)]
 pub enum OperatorForm {
     Decoded(Operator, usize),
     Bad(Fault),

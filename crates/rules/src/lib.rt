@@ -1,4 +1,5 @@
 // The types that the definitions of specs/ and the code share.
+#![tactic(auto)]
 pub mod amounts;
 pub mod answers;
 pub mod counts;

@@ -139,6 +139,6 @@ module _ {s : List ℕ} {at : ℕ} {v : Chain} where
   pub below : {next : ℕ} (n : ℕ) → n ≤ 256 → ((i : ℕ) → nat_abs (v i) ≤ 1) → Text s (at + 1) (face_text v n) next → Below s at v n next
   unfolding join
   below zero l u ends = none_below
-  below (suc n) l u r =
+  below {next = next} (suc n) l u r =
       let d = text-divided (face_text v n) r in
-      number (omega arith) (u n) (below n (omega arith) u d.1) d.2
+      number (omega arith) (u n) (below {next = d.0} n (omega arith) u d.1) d.2

@@ -64,4 +64,4 @@ module _ {s : List ℕ} where
 
   pub text-divided : {at next : ℕ} (t : List ℕ) {u : List ℕ} → Text s at (t ++ u) next → (mid : ℕ) × Text s at t mid × Text s mid u next
   text-divided {at} [] r = (at, ends, r)
-  text-divided (x ∷ t) (byte h e r) = let d = text-divided t r in (d.0, byte h e d.1, d.2)
+  text-divided {at = at} {next = next} (x ∷ t) {u = u} (byte h e r) = let d = text-divided {at = at + 1} t r in (d.0, byte h e d.1, d.2)
