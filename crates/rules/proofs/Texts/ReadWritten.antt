@@ -21,10 +21,10 @@ module _ {X : Complex} (G : Good X) {s : List ℕ} where
       (go : Place → Reading) → repeat (read_cell s (suc k)) go j (up_to X (suc k) 0, at) ≡ go (up_to X (suc k) j, next)
   unfolding join repeat
   cells_read k zero l h ends go = refl
-  cells_read {at} {next} k (suc j) l h r go =
+  cells_read {at = at} {next = next} k (suc j) l h r go =
       let d = text-divided (join j (λ j. write_cell (suc k) (λ i. (X (suc k)).d i j))) r in
       repeat-last (read_cell s (suc k)) go j (up_to X (suc k) 0, at)
-      ∙ cells_read k j l (omega arith) d.1 (λ y. read_cell s (suc k) y go)
+      ∙ cells_read {at = at} {next = d.0} k j l (omega arith) d.1 (λ y. read_cell s (suc k) y go)
       ∙ cell-taken k (up_to_few G k j) (next_can G k j l h) d.2 go
       ∙ ap (λ Y. go (Y, next)) (up_to_more X (suc k) j)
 

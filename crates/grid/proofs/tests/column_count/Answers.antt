@@ -12,8 +12,7 @@ use Rattle.grid.proofs.tests.column_count.Goals.{After-times_of}
 zeros : (c : After-times_of) → let x = c.args in c.times_of.result ≡ count 96 (λ i. is_zero (entries x.m.now i x.c))
 unfolding is_zero
 zeros c =
-    let start = c.before in
-    c.times_of.ensures ∙ count_same 96 (λ i l. ap is_zero (sym (entries_in start.args.m.now i start.args.c l start.requires.inside)))
+    c.times_of.ensures ∙ count_same 96 (λ i l. ap is_zero (sym (entries_in c.args.m.now i c.args.c l c.requires.inside)))
 
 pub overflow_sub-result : goal.overflow_sub-result
 overflow_sub-result c = rw (zeros (goal.at.overflow_sub-result c).After-times_of) (count_le 96 _)

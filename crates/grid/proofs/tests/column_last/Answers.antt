@@ -11,28 +11,23 @@ use Rattle.maths.proofs.Sizes.{back}
 use Rattle.maths.proofs.Tables.{entries_in}
 use Rattle.grid.proofs.Readings.{sought_begin, sought_here, sought_below, sought_none}
 use Rattle.grid.proofs.tests.column_last.Goals as goal
-use Rattle.grid.proofs.tests.column_last.Goals.{After-eq8, At-loop-i}
+use Rattle.grid.proofs.tests.column_last.Goals.{After-eq8}
 
--- the turn that a test is made in
-abbrev turn : After-eq8 → At-loop-i
-turn c = c.before.before.before
-
--- what this turn tests
-told : (c : After-eq8) → let a = turn c in let x = a.args in
-    c.eq8.result ≡ eq_z (entries x.m.now (a.loop-i.i - 1) x.c) (to_z w8 (of_z w8 x.z))
+-- what this tests.before.before.before
+told : (c : After-eq8) → let x = c.args in
+    c.eq8.result ≡ eq_z (entries x.m.now (c.loop-i.i - 1) x.c) (to_z w8 (of_z w8 x.z))
 told c =
     c.eq8.ensures
-    ∙ ap (λ y. eq_z y (to_z w8 (of_z w8 (turn c).args.z)))
+    ∙ ap (λ y. eq_z y (to_z w8 (of_z w8 c.args.z)))
     (back w8 c.eq8-arg-1.given ∙ sym (entries_in _ _ _ (omega arith) (omega arith)))
 
 pub returns-then-eq8 : goal.returns-then-eq8
 returns-then-eq8 c =
-    let a = turn (goal.at.returns-then-eq8 c).After-eq8 in
-    rw (to_z-of_z a.ranges.z) at (sought_here a.loop-i.invariant (omega arith) (sym (told (goal.at.returns-then-eq8 c).After-eq8) ∙ c.if-eq8.true))
+    rw (to_z-of_z c.ranges.z) at (sought_here c.loop-i.invariant (omega arith) (sym (told (goal.at.returns-then-eq8 c).After-eq8) ∙ c.if-eq8.true))
 
 pub loop-i-preserved : goal.loop-i-preserved
 loop-i-preserved c =
-    sought_below (turn (goal.at.loop-i-preserved c).After-eq8).loop-i.invariant (omega arith) (sym (told (goal.at.loop-i-preserved c).After-eq8) ∙ c.if-eq8.false)
+    sought_below c.loop-i.invariant (omega arith) (sym (told (goal.at.loop-i-preserved c).After-eq8) ∙ c.if-eq8.false)
 
 pub returns : goal.returns
 returns c = rw (to_z-of_z c.ranges.z) at (sought_none c.loop-i.invariant (omega arith))

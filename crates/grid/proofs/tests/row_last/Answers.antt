@@ -9,15 +9,11 @@ use Rattle.maths.specs.Tables.{entries}
 use Rattle.maths.proofs.Sizes.{back}
 use Rattle.grid.proofs.Readings.{row_entry, sought_begin, sought_here, sought_below, sought_none}
 use Rattle.grid.proofs.tests.row_last.Goals as goal
-use Rattle.grid.proofs.tests.row_last.Goals.{After-is_zero8, At-loop-p}
+use Rattle.grid.proofs.tests.row_last.Goals.{After-is_zero8}
 
--- the turn that a test is made in
-abbrev turn : After-is_zero8 → At-loop-p
-turn c = c.before.before.before
-
--- what this turn tests
-told : (c : After-is_zero8) → let a = turn c in let x = a.args in
-    c.is_zero8.result ≡ is_zero (entries x.m.now x.r ((a.loop-p.p - 96) / 96))
+-- what this tests.before.before.before
+told : (c : After-is_zero8) → let x = c.args in
+    c.is_zero8.result ≡ is_zero (entries x.m.now x.r ((c.loop-p.p - 96) / 96))
 told c = c.is_zero8.ensures ∙ ap is_zero (back w8 c.is_zero8-arg-1.given ∙ row_entry _ _ _ (omega arith) (omega arith))
 
 pub loop-p-init : goal.loop-p-init
@@ -25,16 +21,14 @@ loop-p-init c = record { on = omega arith; upto = omega arith; passed = sought_b
 
 pub returns-then-not-is_zero8 : goal.returns-then-not-is_zero8
 returns-then-not-is_zero8 c =
-    let a = turn (goal.at.returns-then-not-is_zero8 c).After-is_zero8 in
-    sought_here a.loop-p.invariant.passed (omega arith) (ap not (sym (told (goal.at.returns-then-not-is_zero8 c).After-is_zero8)) ∙ c.if-not-is_zero8.true-raw)
+    sought_here c.loop-p.invariant.passed (omega arith) (ap not (sym (told (goal.at.returns-then-not-is_zero8 c).After-is_zero8)) ∙ c.if-not-is_zero8.true-raw)
 
 pub loop-p-preserved : goal.loop-p-preserved
 loop-p-preserved c =
-    let a = turn (goal.at.loop-p-preserved c).After-is_zero8 in
     record {
       on = omega arith;
       upto = omega arith;
-      passed = sought_below a.loop-p.invariant.passed (omega arith) (ap not (sym (told (goal.at.loop-p-preserved c).After-is_zero8)) ∙ c.if-not-is_zero8.false-raw);
+      passed = sought_below c.loop-p.invariant.passed (omega arith) (ap not (sym (told (goal.at.loop-p-preserved c).After-is_zero8)) ∙ c.if-not-is_zero8.false-raw);
     }
 
 pub returns : goal.returns

@@ -11,34 +11,29 @@ use Rattle.maths.specs.Tables.{entries}
 use Rattle.maths.proofs.Sizes.{back}
 use Rattle.grid.proofs.Readings.{row_entry, tally_none, tally_more, tally_room, tally_end}
 use Rattle.grid.proofs.tests.row_times.Goals as goal
-use Rattle.grid.proofs.tests.row_times.Goals.{After-one_if_eq8-n, At-loop-p}
+use Rattle.grid.proofs.tests.row_times.Goals.{After-one_if_eq8-n}
 
 pub loop-p-init : goal.loop-p-init
 loop-p-init c = record { on = omega arith; upto = omega arith; passed = tally_none (omega arith) }
 
--- the turn that a test is made in
-abbrev turn : After-one_if_eq8-n → At-loop-p
-turn c = c.before.before.before
-
--- what this turn adds
-told : (c : After-one_if_eq8-n) → let a = turn c in let x = a.args in
+-- what this adds.before.before.before
+told : (c : After-one_if_eq8-n) → let a = c.before.before.before in let x = a.args in
     c.one_if_eq8-n.result ≡ cond (eq_z (entries x.m.now x.r (a.loop-p.p / 96)) (to_z w8 (of_z w8 x.z))) 1 0
 told c =
-    let a = turn c in
+    let a = c.before.before.before in
     c.one_if_eq8-n.ensures
     ∙ ap (λ y. cond (eq_z y (to_z w8 (of_z w8 a.args.z))) 1 0)
     (back w8 c.one_if_eq8-arg-1.given ∙ row_entry _ _ _ (omega arith) a.loop-p.invariant.on)
 
 pub overflow_add-n : goal.overflow_add-n
-overflow_add-n c = tally_room (turn (goal.at.overflow_add-n c).After-one_if_eq8-n).loop-p.invariant.passed (omega arith) (told (goal.at.overflow_add-n c).After-one_if_eq8-n)
+overflow_add-n c = tally_room c.loop-p.invariant.passed (omega arith) (told (goal.at.overflow_add-n c).After-one_if_eq8-n)
 
 pub loop-p-preserved : goal.loop-p-preserved
 loop-p-preserved c =
-    let a = turn (goal.at.loop-p-preserved c).After-one_if_eq8-n in
     record {
       on = omega arith;
       upto = omega arith;
-      passed = tally_more a.loop-p.invariant.passed (omega arith) (omega arith) (told (goal.at.loop-p-preserved c).After-one_if_eq8-n);
+      passed = tally_more c.loop-p.invariant.passed (omega arith) (omega arith) (told (goal.at.loop-p-preserved c).After-one_if_eq8-n);
     }
 
 pub returns : goal.returns

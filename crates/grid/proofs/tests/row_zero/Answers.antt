@@ -10,15 +10,11 @@ use Rattle.maths.proofs.Sizes.{back}
 use Rattle.maths.proofs.Tests.{all_none, all_more, all-not}
 use Rattle.grid.proofs.Readings.{row_entry}
 use Rattle.grid.proofs.tests.row_zero.Goals as goal
-use Rattle.grid.proofs.tests.row_zero.Goals.{After-is_zero8, At-loop-p}
+use Rattle.grid.proofs.tests.row_zero.Goals.{After-is_zero8}
 
--- the turn that a test is made in
-abbrev turn : After-is_zero8 → At-loop-p
-turn c = c.before.before.before
-
--- what this turn tests
-told : (c : After-is_zero8) → let a = turn c in let x = a.args in
-    c.is_zero8.result ≡ is_zero (entries x.m.now x.r (a.loop-p.p / 96))
+-- what this tests.before.before.before
+told : (c : After-is_zero8) → let x = c.args in
+    c.is_zero8.result ≡ is_zero (entries x.m.now x.r (c.loop-p.p / 96))
 told c = c.is_zero8.ensures ∙ ap is_zero (back w8 c.is_zero8-arg-1.given ∙ row_entry _ _ _ (omega arith) (omega arith))
 
 pub loop-p-init : goal.loop-p-init
@@ -28,16 +24,15 @@ loop-p-init c =
 
 pub returns-then-not-is_zero8 : goal.returns-then-not-is_zero8
 returns-then-not-is_zero8 c =
-    sym (all-not 96 _ ((turn (goal.at.returns-then-not-is_zero8 c).After-is_zero8).loop-p.p / 96) (omega arith) (sym (told (goal.at.returns-then-not-is_zero8 c).After-is_zero8) ∙ c.if-not-is_zero8.true))
+    sym (all-not 96 _ (c.loop-p.p / 96) (omega arith) (sym (told (goal.at.returns-then-not-is_zero8 c).After-is_zero8) ∙ c.if-not-is_zero8.true))
 
 pub loop-p-preserved : goal.loop-p-preserved
 loop-p-preserved c =
-    let a = turn (goal.at.loop-p-preserved c).After-is_zero8 in
-    let e : (a.loop-p.p + 96) / 96 ≡ a.loop-p.p / 96 + 1 = omega arith in
+    let e : (c.loop-p.p + 96) / 96 ≡ c.loop-p.p / 96 + 1 = omega arith in
     record {
       on = omega arith;
       upto = omega arith;
-      passed = rw e (all_more _ _ a.loop-p.invariant.passed (sym (told (goal.at.loop-p-preserved c).After-is_zero8) ∙ c.if-not-is_zero8.false));
+      passed = rw e (all_more _ _ c.loop-p.invariant.passed (sym (told (goal.at.loop-p-preserved c).After-is_zero8) ∙ c.if-not-is_zero8.false));
     }
 
 pub returns : goal.returns

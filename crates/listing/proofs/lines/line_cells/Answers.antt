@@ -1,0 +1,11 @@
+-- `listing::lines::line_cells` meets its contract: four numbers and the line's end are put one after the other.
+use native.Mathlib.Omega.{arith}
+use Rattle.maths.proofs.Buffers.{two_pieces}
+use Rattle.listing.specs.Lines.{cells_line}
+use Rattle.listing.proofs.lines.line_cells.Goals as goal
+
+pub returns : goal.returns
+unfolding cells_line
+returns c =
+    let last = two_pieces c.put_field-next-3.ensures.put (two_pieces c.put_field-next-4.ensures.put c.put.ensures) in
+    record { put = two_pieces c.put_field-next.ensures.put (two_pieces c.put_field-next-2.ensures.put last); most = omega arith }

@@ -1,0 +1,17 @@
+-- `listing::lines::line_seam` meets its contract: the tail is the last -1 of the column, the head the last 1, and three numbers and
+-- the line's end are put one after the other.
+use native.Mathlib.Omega.{arith}
+use Rattle.maths.proofs.Buffers.{two_pieces}
+use Rattle.rules.specs.Printed.{seam_line}
+use Rattle.listing.proofs.lines.line_seam.Goals as goal
+
+pub returns : goal.returns
+unfolding seam_line
+returns c =
+    let last = two_pieces c.put_field-next-3.ensures.put c.put.ensures in
+    record {
+      put =
+          rw (← c.column_last-tail.ensures, ← c.column_last-head.ensures)
+          (two_pieces c.put_field-next.ensures.put (two_pieces c.put_field-next-2.ensures.put last));
+      most = omega arith;
+    }
