@@ -16,7 +16,7 @@ fn length_of(low: u8, middle: u8, high: u8) -> usize {
 // One input, and whether there was one and it was printed.
 fn print_next(input: &mut [u8], m1: &mut [i8], m2: &mut [i8], m3: &mut [i8], out: &mut [u8]) -> bool
     requires in_bounds { 65536 ≤ length input.old }
-    requires sized { Sized (as_lent (counts_of empty) m1 m2 m3) }
+    requires sized { Sized (as_lent (counts_of empty) m1.old m2.old m3.old) }
     requires in_bounds_2 { 38400 ≤ length out.old }
 {
     let mut head = [0u8; 3];

@@ -26,9 +26,9 @@ pub(crate) fn apply(
     m2: &mut [i8],
     m3: &mut [i8],
 ) -> Applied
-    requires held { Held (as_lent c m1 m2 m3) }
+    requires held { Held (as_lent c m1.old m2.old m3.old) }
     requires read_from { ReadFrom s.now o }
-    ensures { left result m1 m2 m3 ≡ applied (at_entry c m1 m2 m3) (step o (faces_of s.now o) (complex (at_entry c m1 m2 m3))) }
+    ensures { left result m1.new m2.new m3.new ≡ applied (at_entry c m1.old m2.old m3.old) (step o (faces_of s.now o) (complex (at_entry c m1.old m2.old m3.old))) }
 {
     match o {
         Operator::Make { dim, list } => make(c, dim, s, list, m1, m2, m3),

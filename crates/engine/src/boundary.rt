@@ -79,7 +79,7 @@ pub fn boundary(
     chain: &[i32],
     out: &mut [i32],
 ) -> u8
-    ensures { given result out.new ≡ boundary_call (at_entry c m1 m2 m3) d chain.now out.old }
+    ensures { given result out.new ≡ boundary_call (at_entry c m1.now m2.now m3.now) d chain.now out.old }
 {
     if !((chain.len() == SIDE) & (out.len() == SIDE)) {
         return WRONG_LENGTH;

@@ -30,9 +30,9 @@ const CARRY_LIMIT: u32 = 100_000_000;
 
 // The operator's own refusal, or 0: it is applied to a copy.
 fn refusal_of_trial(c: Counts, o: Operator, s: &[u8], m1: &[i8], m2: &[i8], m3: &[i8]) -> u8
-    requires held { Held (as_lent c m1 m2 m3) }
+    requires held { Held (as_lent c m1.now m2.now m3.now) }
     requires read_from { ReadFrom s.now o }
-    ensures { result ≡ number_of (step o (faces_of s.now o) (complex (at_entry c m1 m2 m3))) }
+    ensures { result ≡ number_of (step o (faces_of s.now o) (complex (at_entry c m1.now m2.now m3.now))) }
 {
     let mut t1 = [0i8; SIZE];
     let mut t2 = [0i8; SIZE];
@@ -46,9 +46,9 @@ fn refusal_of_trial(c: Counts, o: Operator, s: &[u8], m1: &[i8], m2: &[i8], m3: 
 
 // The refusal of carrying through an operator, or 0: 17 before its own.
 fn refusal_of_carrying(c: Counts, o: Operator, s: &[u8], m1: &[i8], m2: &[i8], m3: &[i8]) -> u8
-    requires held { Held (as_lent c m1 m2 m3) }
+    requires held { Held (as_lent c m1.now m2.now m3.now) }
     requires read_from { ReadFrom s.now o }
-    ensures { result ≡ number_of (carry_step o (faces_of s.now o) (complex (at_entry c m1 m2 m3))) }
+    ensures { result ≡ number_of (carry_step o (faces_of s.now o) (complex (at_entry c m1.now m2.now m3.now))) }
 {
     match o {
         Operator::Make { dim: _, list: _ } => refusal_of_trial(c, o, s, m1, m2, m3),
@@ -108,8 +108,8 @@ fn carry_through(
     chain: &[i32],
     out: &mut [i32],
 ) -> u8
-    requires { Carriable (as_lent c m1 m2 m3) s.now o d chain.now out.old }
-    ensures { given result out.new ≡ carried_by (at_entry c m1 m2 m3) s.now o d chain.now out.old }
+    requires { Carriable (as_lent c m1.now m2.now m3.now) s.now o d chain.now out.old }
+    ensures { given result out.new ≡ carried_by (at_entry c m1.now m2.now m3.now) s.now o d chain.now out.old }
 {
     let refusal = refusal_of_carrying(c, o, s, m1, m2, m3);
     if refusal != ACCEPTED {
@@ -145,7 +145,7 @@ pub fn carry(
     chain: &[i32],
     out: &mut [i32],
 ) -> ChainCarried
-    ensures { record { refusal = result.refusal; place = result.place; out = out.new } ≡ carry_call (at_entry c m1 m2 m3) s.now d chain.now out.old }
+    ensures { record { refusal = result.refusal; place = result.place; out = out.new } ≡ carry_call (at_entry c m1.now m2.now m3.now) s.now d chain.now out.old }
 {
     if !((chain.len() == SIDE) & (out.len() == SIDE)) {
         return unplaced(WRONG_LENGTH);

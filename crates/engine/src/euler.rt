@@ -31,7 +31,7 @@ fn alternating(c: Counts) -> i16
 
 // The Euler number of a lent pattern, or 0 where it is refused by 1 or 2, in this order.
 pub fn euler(c: Counts, m1: &[i8], m2: &[i8], m3: &[i8]) -> EulerNumber
-    ensures { result ≡ euler_call (at_entry c m1 m2 m3) }
+    ensures { result ≡ euler_call (at_entry c m1.now m2.now m3.now) }
 {
     let refusal = refusal_of_pattern(c, m1, m2, m3);
     if refusal != ACCEPTED {

@@ -36,7 +36,7 @@ pub fn apply_operator(
     m3: &mut [i8],
     s: &[u8],
 ) -> OperatorApplied
-    ensures { left result m1 m2 m3 ≡ apply_call (at_entry c m1 m2 m3) s.now }
+    ensures { left result m1.new m2.new m3.new ≡ apply_call (at_entry c m1.old m2.old m3.old) s.now }
 {
     let refusal = refusal_of_pattern(c, m1, m2, m3);
     if refusal != ACCEPTED {
@@ -78,7 +78,7 @@ fn idle(c: Counts, refusal: u8, place: u32) -> ScriptRun
 
 // The script s on a lent pattern, up to the first refusal.
 pub fn run_script(c: Counts, m1: &mut [i8], m2: &mut [i8], m3: &mut [i8], s: &[u8]) -> ScriptRun
-    ensures { left result m1 m2 m3 ≡ run_call (at_entry c m1 m2 m3) s.now }
+    ensures { left result m1.new m2.new m3.new ≡ run_call (at_entry c m1.old m2.old m3.old) s.now }
 {
     if LONGEST_SCRIPT < s.len() {
         return idle(c, WRONG_LENGTH, NO_PLACE);

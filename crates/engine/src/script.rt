@@ -33,9 +33,9 @@ pub(crate) fn same_base(c: Counts, s: &[u8]) -> bool
 
 // The operator at `at`.
 fn run_one(c: Counts, s: &[u8], at: usize, m1: &mut [i8], m2: &mut [i8], m3: &mut [i8]) -> OneRun
-    requires held { Held (as_lent c m1 m2 m3) }
+    requires held { Held (as_lent c m1.old m2.old m3.old) }
     requires s_len_bound { length s.now ≤ 24576 }
-    ensures { OperatorRun s.now at (at_entry c m1 m2 m3) result.next result.refusal result.place (at_exit result.counts m1 m2 m3) }
+    ensures { OperatorRun s.now at (at_entry c m1.old m2.old m3.old) result.next result.refusal result.place (at_exit result.counts m1.new m2.new m3.new) }
 {
     match read_operator(s, at) {
         OperatorForm::Bad(f) => OneRun {
@@ -66,8 +66,8 @@ pub(crate) fn run_operators(
     m2: &mut [i8],
     m3: &mut [i8],
 ) -> ScriptRun
-    requires { Runnable n s.now (as_lent c m1 m2 m3) }
-    ensures { RunTo s.now n (at_entry c m1 m2 m3) result.ran result.refusal result.place (at_exit result.counts m1 m2 m3) }
+    requires { Runnable n s.now (as_lent c m1.old m2.old m3.old) }
+    ensures { RunTo s.now n (at_entry c m1.old m2.old m3.old) result.ran result.refusal result.place (at_exit result.counts m1.new m2.new m3.new) }
 {
     let mut counts = c;
     let mut place: usize = 7;

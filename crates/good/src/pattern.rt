@@ -49,8 +49,8 @@ fn is_sound(n0: usize, n1: usize, n2: usize, n3: usize, m1: &[i8], m2: &[i8], m3
 
 // Whether four counts and three matrices make a good pattern.
 pub fn is_good(c: Counts, m1: &[i8], m2: &[i8], m3: &[i8]) -> bool
-    requires { sized (as_lent c m1 m2 m3) ≡ true }
-    ensures { result ≡ is_good (complex (at_entry c m1 m2 m3)) }
+    requires { sized (as_lent c m1.now m2.now m3.now) ≡ true }
+    ensures { result ≡ is_good (complex (at_entry c m1.now m2.now m3.now)) }
 {
     few(c)
         && is_sound(

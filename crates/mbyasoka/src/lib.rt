@@ -21,7 +21,7 @@ use rules::counts::Counts;
 // Whether the pattern is good: 0, or the refusal 1 or 2.
 #[unsafe(no_mangle)]
 pub extern "C" fn mbyasoka_check(counts: &[u8; 4], m1: &[i8], m2: &[i8], m3: &[i8]) -> u8
-    ensures { result ≡ tested (pattern_lent counts m1 m2 m3) }
+    ensures { result ≡ tested (pattern_lent counts.now m1.now m2.now m3.now) }
 {
     let c = Counts { n: *counts };
     refusal_of_pattern(c, m1, m2, m3)
@@ -38,7 +38,7 @@ pub extern "C" fn mbyasoka_read_mesh(
     used: &mut usize,
     place: &mut u32,
 ) -> u8
-    ensures { left (record { counts = counts_left counts; used = used.new; refusal = result; place = place.new }) m1 m2 m3 ≡ read_call s.now (at_entry (counts_of empty) m1 m2 m3) }
+    ensures { left (record { counts = counts_left counts.new; used = used.new; refusal = result; place = place.new }) m1.new m2.new m3.new ≡ read_call s.now (at_entry (counts_of empty) m1.old m2.old m3.old) }
 {
     let answer = read_mesh(s, m1, m2, m3);
     let c = answer.counts;
@@ -59,7 +59,7 @@ pub extern "C" fn mbyasoka_write_mesh(
     out: &mut [u8],
     written: &mut usize,
 ) -> u8
-    ensures { record { answer = record { written = written.exit.now; refusal = result }; out = out.new } ≡ write_call (pattern_lent counts m1 m2 m3) out.old }
+    ensures { record { answer = record { written = written.new; refusal = result }; out = out.new } ≡ write_call (pattern_lent counts.now m1.now m2.now m3.now) out.old }
 {
     let c = Counts { n: *counts };
     let answer = write_mesh(c, m1, m2, m3, out);
@@ -76,7 +76,7 @@ pub extern "C" fn mbyasoka_euler(
     m3: &[i8],
     number: &mut i16,
 ) -> u8
-    ensures { record { number = number.exit.now; refusal = result } ≡ euler_call (pattern_lent counts m1 m2 m3) }
+    ensures { record { number = number.new; refusal = result } ≡ euler_call (pattern_lent counts.now m1.now m2.now m3.now) }
 {
     let c = Counts { n: *counts };
     let answer = euler(c, m1, m2, m3);
@@ -95,7 +95,7 @@ pub extern "C" fn mbyasoka_apply_operator(
     s: &[u8],
     place: &mut u32,
 ) -> u8
-    ensures { left (record { counts = counts_left counts; refusal = result; place = place.new }) m1 m2 m3 ≡ apply_call (pattern_lent counts m1 m2 m3) s.now }
+    ensures { left (record { counts = counts_left counts.new; refusal = result; place = place.new }) m1.new m2.new m3.new ≡ apply_call (pattern_lent counts.old m1.old m2.old m3.old) s.now }
 {
     let c = Counts { n: *counts };
     let answer = apply_operator(c, m1, m2, m3, s);
@@ -118,7 +118,7 @@ pub extern "C" fn mbyasoka_run_script(
     ran: &mut u16,
     place: &mut u32,
 ) -> u8
-    ensures { left (record { counts = counts_left counts; ran = ran.new; refusal = result; place = place.new }) m1 m2 m3 ≡ run_call (pattern_lent counts m1 m2 m3) s.now }
+    ensures { left (record { counts = counts_left counts.new; ran = ran.new; refusal = result; place = place.new }) m1.new m2.new m3.new ≡ run_call (pattern_lent counts.old m1.old m2.old m3.old) s.now }
 {
     let c = Counts { n: *counts };
     let answer = run_script(c, m1, m2, m3, s);
@@ -141,7 +141,7 @@ pub extern "C" fn mbyasoka_boundary(
     chain: &[i32],
     out: &mut [i32],
 ) -> u8
-    ensures { given result out.new ≡ boundary_call (pattern_lent counts m1 m2 m3) d chain.now out.old }
+    ensures { given result out.new ≡ boundary_call (pattern_lent counts.now m1.now m2.now m3.now) d chain.now out.old }
 {
     let c = Counts { n: *counts };
     boundary(c, m1, m2, m3, d, chain, out)
@@ -160,7 +160,7 @@ pub extern "C" fn mbyasoka_carry(
     out: &mut [i32],
     place: &mut u32,
 ) -> u8
-    ensures { record { refusal = result; place = place.new; out = out.new } ≡ carry_call (pattern_lent counts m1 m2 m3) s.now d chain.now out.old }
+    ensures { record { refusal = result; place = place.new; out = out.new } ≡ carry_call (pattern_lent counts.now m1.now m2.now m3.now) s.now d chain.now out.old }
 {
     let c = Counts { n: *counts };
     let answer = carry(c, m1, m2, m3, s, d, chain, out);
@@ -178,7 +178,7 @@ pub extern "C" fn mbyasoka_import_off(
     coordinates: &mut [i32],
     s: &[u8],
 ) -> u8
-    ensures { imported (record { counts = counts_left counts; refusal = result }) m1 m2 m3 coordinates ≡ import_call s.now (at_entry (counts_of empty) m1 m2 m3) coordinates.old }
+    ensures { imported (record { counts = counts_left counts.new; refusal = result }) m1.new m2.new m3.new coordinates.new ≡ import_call s.now (at_entry (counts_of empty) m1.old m2.old m3.old) coordinates.old }
 {
     let answer = import_off(s, m1, m2, m3, coordinates);
     let c = answer.counts;
@@ -198,7 +198,7 @@ pub extern "C" fn mbyasoka_export_off(
     out: &mut [u8],
     written: &mut usize,
 ) -> u8
-    ensures { record { answer = record { written = written.exit.now; refusal = result }; out = out.new } ≡ export_call (pattern_lent counts m1 m2 m3) coordinates.now out.old }
+    ensures { record { answer = record { written = written.new; refusal = result }; out = out.new } ≡ export_call (pattern_lent counts.now m1.now m2.now m3.now) coordinates.now out.old }
 {
     let c = Counts { n: *counts };
     let answer = export_off(c, m1, m2, m3, coordinates, out);

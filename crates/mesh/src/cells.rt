@@ -24,8 +24,8 @@ fn read_cell(
     m2: &mut [i8],
     m3: &mut [i8],
 ) -> Part
-    requires { Readable k (as_lent c m1 m2 m3) }
-    ensures { PartRead (read_cell s.now k (complex (at_entry c m1 m2 m3), at)) result (at_exit result.counts m1 m2 m3) }
+    requires { Readable k (as_lent c m1.old m2.old m3.old) }
+    ensures { PartRead (read_cell s.now k (complex (at_entry c m1.old m2.old m3.old), at)) result (at_exit result.counts m1.new m2.new m3.new) }
 {
     match make_form(s, k, at) {
         OperatorForm::Bad(f) => faulty(c, f),
@@ -53,8 +53,8 @@ fn read_cells(
     m2: &mut [i8],
     m3: &mut [i8],
 ) -> Part
-    requires { Readable k (as_lent c m1 m2 m3) }
-    ensures { PartRead (λ go. repeat (read_cell s.now k) go n (complex (at_entry c m1 m2 m3), at)) result (at_exit result.counts m1 m2 m3) }
+    requires { Readable k (as_lent c m1.old m2.old m3.old) }
+    ensures { PartRead (λ go. repeat (read_cell s.now k) go n (complex (at_entry c m1.old m2.old m3.old), at)) result (at_exit result.counts m1.new m2.new m3.new) }
 {
     let mut counts = c;
     let mut place = at;
@@ -87,8 +87,8 @@ pub(crate) fn read_section(
     m2: &mut [i8],
     m3: &mut [i8],
 ) -> Part
-    requires { Readable k (as_lent c m1 m2 m3) }
-    ensures { PartRead (read_section s.now k (complex (at_entry c m1 m2 m3), at)) result (at_exit result.counts m1 m2 m3) }
+    requires { Readable k (as_lent c m1.old m2.old m3.old) }
+    ensures { PartRead (read_section s.now k (complex (at_entry c m1.old m2.old m3.old), at)) result (at_exit result.counts m1.new m2.new m3.new) }
 {
     match byte_form(s, at, 0, SIDE) {
         Field::Bad(f) => faulty(c, f),

@@ -54,8 +54,8 @@ fn read_corners(s: &[u8]) -> Part
 
 // The section of dimension k, if those before it were read.
 fn read_next(before: Part, k: u8, s: &[u8], m1: &mut [i8], m2: &mut [i8], m3: &mut [i8]) -> Part
-    requires { NextSection s.now k before (as_lent before.counts m1 m2 m3) }
-    ensures { ReadUpTo s.now (k + 1) result (at_exit result.counts m1 m2 m3) }
+    requires { NextSection s.now k before (as_lent before.counts m1.old m2.old m3.old) }
+    ensures { ReadUpTo s.now (k + 1) result (at_exit result.counts m1.new m2.new m3.new) }
 {
     if before.refusal != ACCEPTED {
         return before;
@@ -67,7 +67,7 @@ fn read_next(before: Part, k: u8, s: &[u8], m1: &mut [i8], m2: &mut [i8], m3: &m
 // All of the mesh, into matrices of zeros.
 fn read_sections(s: &[u8], m1: &mut [i8], m2: &mut [i8], m3: &mut [i8]) -> Part
     requires { Zeros m1.old m2.old m3.old }
-    ensures { ReadUpTo s.now 4 result (at_exit result.counts m1 m2 m3) }
+    ensures { ReadUpTo s.now 4 result (at_exit result.counts m1.new m2.new m3.new) }
 {
     let corners = read_corners(s);
     let seams = read_next(corners, 1, s, m1, m2, m3);
@@ -77,7 +77,7 @@ fn read_sections(s: &[u8], m1: &mut [i8], m2: &mut [i8], m3: &mut [i8]) -> Part
 
 // Every entry of the three matrices becomes 0.
 fn clear_all(m1: &mut [i8], m2: &mut [i8], m3: &mut [i8])
-    requires { Sized (as_lent (counts_of empty) m1 m2 m3) }
+    requires { Sized (as_lent (counts_of empty) m1.old m2.old m3.old) }
     ensures { Zeros m1.new m2.new m3.new }
 {
     clear(m1);
@@ -87,7 +87,7 @@ fn clear_all(m1: &mut [i8], m2: &mut [i8], m3: &mut [i8])
 
 // Reads a mesh into three matrices. Every refusal but that of their lengths leaves them zero.
 pub fn read_mesh(s: &[u8], m1: &mut [i8], m2: &mut [i8], m3: &mut [i8]) -> MeshRead
-    ensures { left result m1 m2 m3 ≡ read_call s.now (at_entry (counts_of empty) m1 m2 m3) }
+    ensures { left result m1.new m2.new m3.new ≡ read_call s.now (at_entry (counts_of empty) m1.old m2.old m3.old) }
 {
     if !is_sized(m1, m2, m3) {
         return refused(WRONG_LENGTH, NO_PLACE);

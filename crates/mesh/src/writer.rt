@@ -46,8 +46,8 @@ fn section_length(m: &[i8], k: usize, n: u8) -> usize
 
 // How long the mesh is.
 fn mesh_length(c: Counts, m1: &[i8], m2: &[i8], m3: &[i8]) -> usize
-    requires { Held (as_lent c m1 m2 m3) }
-    ensures { result ≡ length (write_mesh (complex (at_entry c m1 m2 m3))) }
+    requires { Held (as_lent c m1.now m2.now m3.now) }
+    ensures { result ≡ length (write_mesh (complex (at_entry c m1.now m2.now m3.now))) }
 {
     let n = c.n;
     let seams = section_length(m1, 1, n[1]);
@@ -133,8 +133,8 @@ fn put_section(m: &[i8], k: usize, n: u8, out: &mut [u8], at: usize) -> usize
 
 // The mesh at the front of the buffer, and the place after it.
 fn put_mesh(c: Counts, m1: &[i8], m2: &[i8], m3: &[i8], out: &mut [u8]) -> usize
-    requires { MeshFits (as_lent c m1 m2 m3) out.old }
-    ensures { Put out.old 0 (write_mesh (complex (at_entry c m1 m2 m3))) result out.new }
+    requires { MeshFits (as_lent c m1.now m2.now m3.now) out.old }
+    ensures { Put out.old 0 (write_mesh (complex (at_entry c m1.now m2.now m3.now))) result out.new }
 {
     let n = c.n;
     let seams = put(out, 0, n[0]);
@@ -145,7 +145,7 @@ fn put_mesh(c: Counts, m1: &[i8], m2: &[i8], m3: &[i8], out: &mut [u8]) -> usize
 
 // A lent pattern is written as a mesh to the first bytes of the buffer, or refused by 1, 2 or 15, in this order, and then no byte is touched.
 pub fn write_mesh(c: Counts, m1: &[i8], m2: &[i8], m3: &[i8], out: &mut [u8]) -> MeshWritten
-    ensures { record { answer = result; out = out.new } ≡ write_call (at_entry c m1 m2 m3) out.old }
+    ensures { record { answer = result; out = out.new } ≡ write_call (at_entry c m1.now m2.now m3.now) out.old }
 {
     let refusal = refusal_of_pattern(c, m1, m2, m3);
     if refusal != ACCEPTED {

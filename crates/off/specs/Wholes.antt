@@ -1,10 +1,7 @@
 -- The parts of an OFF text from its end to its front, and what reading each leaves.
 use Rattle.std.specs.Prelude.{◌≡◌, cond, List, [], ℕ, ◌*◌, ◌≤◌, ℤ, pos, length}
-use Rattle.std.specs.Borrow.{Bor}
-use denote.Triple.Both.{Both}
 use Rattle.maths.specs.Tables.{table}
 use Rattle.rules.specs.Refusals.{wrong_off}
-use Rattle.rules.specs.Lending.{LentMatrices}
 use Rattle.off.specs.declared.answers.Imported.{Imported}
 use Rattle.off.specs.Words.{Text, Found, none, found, after_found, coordinate}
 use Rattle.off.specs.Plain.{Ring, Plain, plain, several, ring, is_over}
@@ -49,8 +46,5 @@ pub record TextTaken (x : Found Plain) (a : Imported) (m1 m2 m3 list : List ℤ)
   pub ends : x ≡ none → a.refusal ≡ wrong_off
 
 -- an answer, and the matrices and the list at exit
-abbrev pub LentList : Type 0
-LentList = Both (Bor (List ℤ)) (Bor (List ℤ))
-
-abbrev pub imported : Imported → LentMatrices → LentMatrices → LentMatrices → LentList → ImportLeft
-imported r m1 m2 m3 list = record { answer = r; m1 = m1.exit.now; m2 = m2.exit.now; m3 = m3.exit.now; coordinates = list.exit.now }
+abbrev pub imported : Imported → List ℤ → List ℤ → List ℤ → List ℤ → ImportLeft
+imported r m1 m2 m3 list = record { answer = r; m1 = m1; m2 = m2; m3 = m3; coordinates = list }

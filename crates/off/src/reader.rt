@@ -120,7 +120,7 @@ pub fn import_off(
     m3: &mut [i8],
     list: &mut [i32],
 ) -> Imported
-    ensures { imported result m1 m2 m3 list ≡ import_call s.now (at_entry (counts_of empty) m1 m2 m3) list.old }
+    ensures { imported result m1.new m2.new m3.new list.new ≡ import_call s.now (at_entry (counts_of empty) m1.old m2.old m3.old) list.old }
 {
     if !is_sized(m1, m2, m3) {
         return no_pattern(WRONG_LENGTH);

@@ -126,7 +126,7 @@ pub fn export_off(
     list: &[i32],
     out: &mut [u8],
 ) -> Exported
-    ensures { record { answer = result; out = out.new } ≡ export_call (at_entry c m1 m2 m3) list.now out.old }
+    ensures { record { answer = result; out = out.new } ≡ export_call (at_entry c m1.now m2.now m3.now) list.now out.old }
 {
     if list.len() != COORDINATES {
         return no_text(WRONG_LENGTH);

@@ -44,8 +44,8 @@ pub(crate) fn append(
     m2: &mut [i8],
     m3: &mut [i8],
 ) -> bool
-    requires { Appendable k column.now (as_lent c m1 m2 m3) }
-    ensures { left result m1 m2 m3 ≡ appended k (coefficients column.now) (at_entry c m1 m2 m3) }
+    requires { Appendable k column.now (as_lent c m1.old m2.old m3.old) }
+    ensures { left result m1.new m2.new m3.new ≡ appended k (coefficients column.now) (at_entry c m1.old m2.old m3.old) }
 {
     let n1 = c.n[1] as usize;
     let n2 = c.n[2] as usize;

@@ -15,8 +15,8 @@ use rules::refusals::{ACCEPTED, NO_SUCH_CELL};
 
 // Cell `cell` is turned round in the matrices that have its column and its row; no matrix has a block's row.
 fn flip_at(c: Counts, dim: u8, cell: usize, m1: &mut [i8], m2: &mut [i8], m3: &mut [i8])
-    requires { Cell 1 3 (as_lent c m1 m2 m3) dim cell }
-    ensures { at_exit c m1 m2 m3 ≡ stored (layers (flip dim cell (complex (at_entry c m1 m2 m3)))) }
+    requires { Cell 1 3 (as_lent c m1.old m2.old m3.old) dim cell }
+    ensures { at_exit c m1.new m2.new m3.new ≡ stored (layers (flip dim cell (complex (at_entry c m1.old m2.old m3.old)))) }
 {
     match dim {
         1 => {
@@ -34,8 +34,8 @@ fn flip_at(c: Counts, dim: u8, cell: usize, m1: &mut [i8], m2: &mut [i8], m3: &m
 // Flip dim: cell `cell` is turned round.
 pub fn flip(c: Counts, dim: u8, cell: u8, m1: &mut [i8], m2: &mut [i8], m3: &mut [i8]) -> Applied
     requires dimension { Dimension 1 3 dim }
-    requires held { Held (as_lent c m1 m2 m3) }
-    ensures { left result m1 m2 m3 ≡ applied (at_entry c m1 m2 m3) (flip_step dim cell (complex (at_entry c m1 m2 m3))) }
+    requires held { Held (as_lent c m1.old m2.old m3.old) }
+    ensures { left result m1.new m2.new m3.new ≡ applied (at_entry c m1.old m2.old m3.old) (flip_step dim cell (complex (at_entry c m1.old m2.old m3.old))) }
 {
     let k = dim as usize;
     if c.n[k] <= cell {

@@ -17,8 +17,8 @@ use rules::refusals::{ACCEPTED, IN_USE, NO_SUCH_CELL};
 
 // Whether no cell has this one as a face: its row in the matrix above is zero, and nothing is above blocks.
 fn is_free(c: Counts, dim: u8, cell: usize, m1: &[i8], m2: &[i8], m3: &[i8]) -> bool
-    requires { Cell 0 3 (as_lent c m1 m2 m3) dim cell }
-    ensures { result ≡ all_zero (λ j. (complex (at_entry c m1 m2 m3) (suc dim)).d cell j) }
+    requires { Cell 0 3 (as_lent c m1.now m2.now m3.now) dim cell }
+    ensures { result ≡ all_zero (λ j. (complex (at_entry c m1.now m2.now m3.now) (suc dim)).d cell j) }
 {
     match dim {
         0 => row_zero(m1, cell),
@@ -30,8 +30,8 @@ fn is_free(c: Counts, dim: u8, cell: usize, m1: &[i8], m2: &[i8], m3: &[i8]) -> 
 
 // The cell's column and row are closed up; no matrix has a corner's column or a block's row.
 fn kill_at(c: Counts, dim: u8, cell: usize, m1: &mut [i8], m2: &mut [i8], m3: &mut [i8])
-    requires { Cell 0 3 (as_lent c m1 m2 m3) dim cell }
-    ensures { at_exit (shrunk_at c dim) m1 m2 m3 ≡ stored (kill dim cell (complex (at_entry c m1 m2 m3))) }
+    requires { Cell 0 3 (as_lent c m1.old m2.old m3.old) dim cell }
+    ensures { at_exit (shrunk_at c dim) m1.new m2.new m3.new ≡ stored (kill dim cell (complex (at_entry c m1.old m2.old m3.old))) }
 {
     match dim {
         0 => remove_row(m1, cell),
@@ -50,8 +50,8 @@ fn kill_at(c: Counts, dim: u8, cell: usize, m1: &mut [i8], m2: &mut [i8], m3: &m
 // Kill dim: the cell is removed where no other has it as a face.
 pub fn kill(c: Counts, dim: u8, cell: u8, m1: &mut [i8], m2: &mut [i8], m3: &mut [i8]) -> Applied
     requires dimension { Dimension 0 3 dim }
-    requires held { Held (as_lent c m1 m2 m3) }
-    ensures { left result m1 m2 m3 ≡ applied (at_entry c m1 m2 m3) (kill_step dim cell (complex (at_entry c m1 m2 m3))) }
+    requires held { Held (as_lent c m1.old m2.old m3.old) }
+    ensures { left result m1.new m2.new m3.new ≡ applied (at_entry c m1.old m2.old m3.old) (kill_step dim cell (complex (at_entry c m1.old m2.old m3.old))) }
 {
     let k = dim as usize;
     if c.n[k] <= cell {

@@ -35,9 +35,9 @@ pub fn make(
     m2: &mut [i8],
     m3: &mut [i8],
 ) -> Applied
-    requires held { Held (as_lent c m1 m2 m3) }
+    requires held { Held (as_lent c m1.old m2.old m3.old) }
     requires make_form { MakeForm s.now dim list }
-    ensures { left result m1 m2 m3 ≡ applied (at_entry c m1 m2 m3) (make_step dim (made_of s.now dim list) (complex (at_entry c m1 m2 m3))) }
+    ensures { left result m1.new m2.new m3.new ≡ applied (at_entry c m1.old m2.old m3.old) (make_step dim (made_of s.now dim list) (complex (at_entry c m1.old m2.old m3.old))) }
 {
     let k = dim as usize;
     let mut column = [0i8; SIDE];

@@ -79,8 +79,8 @@ fn sides_in(d: &[i8], t: usize) -> Sides
 
 // The same in the pattern: the matrix above has a cell's row.
 fn sides_at(c: Counts, dim: u8, t: usize, m1: &[i8], m2: &[i8], m3: &[i8]) -> Sides
-    requires { Cell 0 2 (as_lent c m1 m2 m3) dim t }
-    ensures { result ≡ sides_of (complex (at_entry c m1 m2 m3) (suc dim)).d t }
+    requires { Cell 0 2 (as_lent c m1.now m2.now m3.now) dim t }
+    ensures { result ≡ sides_of (complex (at_entry c m1.now m2.now m3.now) (suc dim)).d t }
 {
     match dim {
         0 => sides_in(m1, t),
@@ -110,8 +110,8 @@ fn merge_at(
     m2: &mut [i8],
     m3: &mut [i8],
 )
-    requires { Between (as_lent c m1 m2 m3) dim t a b }
-    ensures { at_exit (shrunk_at (shrunk_at c dim) (dim + 1)) m1 m2 m3 ≡ stored (merge dim t a b (complex (at_entry c m1 m2 m3))) }
+    requires { Between (as_lent c m1.old m2.old m3.old) dim t a b }
+    ensures { at_exit (shrunk_at (shrunk_at c dim) (dim + 1)) m1.new m2.new m3.new ≡ stored (merge dim t a b (complex (at_entry c m1.old m2.old m3.old))) }
 {
     match dim {
         0 => {
@@ -133,8 +133,8 @@ fn merge_at(
 // Merge at dim: the two cells that the cell lies between become one.
 pub fn merge(c: Counts, dim: u8, cell: u8, m1: &mut [i8], m2: &mut [i8], m3: &mut [i8]) -> Applied
     requires dimension { Dimension 0 2 dim }
-    requires held { Held (as_lent c m1 m2 m3) }
-    ensures { left result m1 m2 m3 ≡ applied (at_entry c m1 m2 m3) (merge_step dim cell (complex (at_entry c m1 m2 m3))) }
+    requires held { Held (as_lent c m1.old m2.old m3.old) }
+    ensures { left result m1.new m2.new m3.new ≡ applied (at_entry c m1.old m2.old m3.old) (merge_step dim cell (complex (at_entry c m1.old m2.old m3.old))) }
 {
     let k = dim as usize;
     if c.n[k] <= cell {

@@ -59,8 +59,8 @@ fn split_at(
     m2: &mut [i8],
     m3: &mut [i8],
 ) -> u8
-    requires { Prepared (as_lent c m1 m2 m3) s.now dim cell list }
-    ensures { left result m1 m2 m3 ≡ leaves (at_entry c m1 m2 m3) (part_step dim cell (chosen_of s.now dim list) (complex (at_entry c m1 m2 m3))) }
+    requires { Prepared (as_lent c m1.old m2.old m3.old) s.now dim cell list }
+    ensures { left result m1.new m2.new m3.new ≡ leaves (at_entry c m1.old m2.old m3.old) (part_step dim cell (chosen_of s.now dim list) (complex (at_entry c m1.old m2.old m3.old))) }
 {
     let k = dim as usize;
     let t = c.n[k - 1] as usize;
@@ -84,9 +84,9 @@ pub fn split(
     m2: &mut [i8],
     m3: &mut [i8],
 ) -> Applied
-    requires held { Held (as_lent c m1 m2 m3) }
+    requires held { Held (as_lent c m1.old m2.old m3.old) }
     requires split_form { SplitForm s.now dim cell list }
-    ensures { left result m1 m2 m3 ≡ applied (at_entry c m1 m2 m3) (split_step dim cell (chosen_of s.now dim list) (complex (at_entry c m1 m2 m3))) }
+    ensures { left result m1.new m2.new m3.new ≡ applied (at_entry c m1.old m2.old m3.old) (split_step dim cell (chosen_of s.now dim list) (complex (at_entry c m1.old m2.old m3.old))) }
 {
     let k = dim as usize;
     let below = c.n[k - 1];

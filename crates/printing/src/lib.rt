@@ -50,7 +50,7 @@ fn told(written: bool) -> bool {
 // A mesh and the script after it are run, and the result is written in three pieces, each by way of `out`. Whether all of it was written; a write
 // that fails is told on standard error.
 pub fn print(s: &[u8], m1: &mut [i8], m2: &mut [i8], m3: &mut [i8], out: &mut [u8]) -> bool
-    requires sized { Sized (as_lent (counts_of empty) m1 m2 m3) }
+    requires sized { Sized (as_lent (counts_of empty) m1.old m2.old m3.old) }
     requires in_bounds { 38400 ≤ length out.old }
 {
     let run = run_input(s, m1, m2, m3);

@@ -22,8 +22,8 @@ pub struct InputRun {
 
 // The mesh at the front of the bytes is read into three matrices, and the script after it is run on them.
 pub(crate) fn run_input(s: &[u8], m1: &mut [i8], m2: &mut [i8], m3: &mut [i8]) -> InputRun
-    requires { Sized (as_lent (counts_of empty) m1 m2 m3) }
-    ensures { left result m1 m2 m3 ≡ run_input s.now }
+    requires { Sized (as_lent (counts_of empty) m1.old m2.old m3.old) }
+    ensures { left result m1.new m2.new m3.new ≡ run_input s.now }
 {
     let read = read_mesh(s, m1, m2, m3);
     let c = read.counts;

@@ -1,0 +1,35 @@
+-- `off::places::put_ring` meets its contract: the count, the corners and the line's end are put one after the other.
+use Prim.Native.Nat.{◌+◌, ◌≤◌}
+use native.Mathlib.Omega.{arith}
+use lib.ListN.{length, take}
+use Rattle.maths.proofs.Buffers.{two_pieces}
+use Rattle.off.specs.Writing.{spaced}
+use Rattle.off.proofs.lengths.FirstBytes.{ring-line, ring-line-length}
+use Rattle.off.proofs.places.put_ring.Goals as goal
+use Rattle.off.proofs.places.put_ring.Goals.{After-put_number-length}
+
+-- the room that is left after the count
+after-count : (c : After-put_number-length) → let a = c.args in
+    c.put_number-length.result + (length (spaced (take a.n a.bytes.now) a.n) + 1) ≤ length c.put_number-length.new.0
+after-count c =
+    let pre = c.requires in
+    omega (arith, ring-line-length pre.corners, pre.room, c.put_number-length.ensures.place, c.put_number-length.ensures.size)
+
+pub put_number-length-requires : goal.put_number-length-requires
+put_number-length-requires c =
+    let pre = c.requires in
+    record { small = omega (arith, pre.corners.few); room = omega (arith, ring-line-length pre.corners, pre.room) }
+
+pub put_spaced-corners-requires : goal.put_spaced-corners-requires
+put_spaced-corners-requires c =
+    let count = (goal.at.put_spaced-corners-requires c).After-put_number-length in
+    record { corners = count.requires.corners; room = omega (arith, after-count count) }
+
+pub put-requires : goal.put-requires
+put-requires c =
+    omega (arith, after-count (goal.at.put-requires c).After-put_number-length, c.put_spaced-corners.ensures.place, c.put_spaced-corners.ensures.size)
+
+pub returns : goal.returns
+returns c =
+    rw (ring-line c.requires.corners)
+    (two_pieces c.put_number-length.ensures (two_pieces c.put_spaced-corners.ensures c.put.ensures))

@@ -1,0 +1,39 @@
+-- `are_distinct` marks each corner that it meets: one that is marked already is one of those before it.
+use Prim.Native.Nat.{ℕ, ◌-◌, ◌<◌}
+use native.Mathlib.Omega.{arith}
+use lib.ListN.{get_or, length-replicate, get_or-replicate}
+use Rattle.off.proofs.rings.Marks.{low-at, marked_none, marked_again, marked_more, marked_all}
+use Rattle.off.proofs.rings.are_distinct.Goals as goal
+use Rattle.off.proofs.rings.are_distinct.Goals.{In-loop-l}
+
+pub loop-l-init : goal.loop-l-init
+loop-l-init c = marked_none _ _ _ (length-replicate {A = ℕ} 96 0) (λ k h. get_or-replicate 96 k 0 0 h)
+
+-- the corner that is loop-l-preserved is below 96
+low : (c : In-loop-l) → let turn = c.before in get_or turn.args.bytes.now turn.loop-l.l 0 < 96
+low c =
+    let turn = c.before in
+    let start = turn.before in
+    low-at start.args.bytes.now start.args.n (omega arith) 96 start.requires.low turn.loop-l.l (omega arith)
+
+pub returns-then-seen-c-ne0 : goal.returns-then-seen-c-ne0
+returns-then-seen-c-ne0 c =
+    let turn = (goal.at.returns-then-seen-c-ne0 c).In-loop-l in
+    marked_again turn.loop-l.invariant (omega arith) (low turn) (omega arith) (omega arith)
+
+pub loop-l-preserved : goal.loop-l-preserved
+loop-l-preserved c =
+    let turn = (goal.at.loop-l-preserved c).In-loop-l in
+    marked_more turn.loop-l.invariant (omega arith) (low turn) (omega arith) (omega arith)
+
+pub returns : goal.returns
+returns c = marked_all c.loop-l.invariant (omega arith) (omega arith)
+
+pub overflow_cast-c : goal.overflow_cast-c
+overflow_cast-c c = omega (arith, low c.before)
+
+pub bounds-seen-c : goal.bounds-seen-c
+bounds-seen-c c = omega (arith, low c.before)
+
+pub bounds-seen-c-in-loop-l : goal.bounds-seen-c-in-loop-l
+bounds-seen-c-in-loop-l c = omega (arith, low c.before.before)
