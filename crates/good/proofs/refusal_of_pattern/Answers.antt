@@ -8,7 +8,7 @@ use Rattle.good.proofs.refusal_of_pattern.Goals as goal
 use Rattle.good.proofs.refusal_of_pattern.Goals.{Else-not-is_sized}
 
 -- the lengths are right
-long : (c : Else-not-is_sized) → let a = c.args in sized (as_lent a.c a.m1 a.m2 a.m3) ≡ true
+long : (c : Else-not-is_sized) → let a = c.args in sized (as_lent a.c a.m1.now a.m2.now a.m3.now) ≡ true
 long c = sym c.is_sized.ensures ∙ c.if-not-is_sized.false
 
 pub returns-then-not-is_sized : goal.returns-then-not-is_sized

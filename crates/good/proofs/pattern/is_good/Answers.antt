@@ -8,7 +8,7 @@ use Rattle.good.proofs.pattern.is_good.Goals.{After-count-then-few-3, Start}
 
 -- the pattern that is tested
 abbrev entry : Start → Pattern
-entry s = let a = s.args in as_lent a.c a.m1 a.m2 a.m3
+entry s = let a = s.args in as_lent a.c a.m1.now a.m2.now a.m3.now
 
 abbrev start : After-count-then-few-3 → Start
 start c = c.before.before.before.before.before.before

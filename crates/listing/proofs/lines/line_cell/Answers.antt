@@ -7,5 +7,5 @@ use Rattle.listing.proofs.lines.line_cell.Goals as goal
 pub returns : goal.returns
 unfolding cell_line
 returns c =
-    let last = two_pieces c.put_faces-next.ensures.put-next c.put.ensures in
-    record { put = two_pieces c.put-next.ensures (two_pieces c.put_field-next.ensures.put-next last); most = omega arith }
+    let last = two_pieces c.put_faces-next.ensures.put c.put.ensures in
+    record { put = two_pieces c.put-next.ensures (two_pieces c.put_field-next.ensures.put last); most = omega arith }

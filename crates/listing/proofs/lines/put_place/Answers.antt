@@ -6,12 +6,14 @@ use Rattle.listing.proofs.lines.put_place.Goals as goal
 
 pub overflow_cast-place : goal.overflow_cast-place
 overflow_cast-place c =
-    let (room, small) = c.requires in
+    let room = c.requires.room in
+    let small = c.requires.small in
     omega (arith, small c.if-refusal.true)
 
 pub put_labelled-requires : goal.put_labelled-requires
 put_labelled-requires c =
-    let (room, small) = c.requires in
+    let room = c.requires.room in
+    let small = c.requires.small in
     record { small = omega (arith, small c.if-refusal.true); room = omega (arith, room) }
 
 pub returns-then-refusal : goal.returns-then-refusal

@@ -9,7 +9,7 @@ use Rattle.off.specs.Exporting.{corner_line}
 use Rattle.off.proofs.writer.Nearness.{near_first}
 use Rattle.off.proofs.lengths.LineLengths.{corner-length-is, corner-most}
 use Rattle.off.proofs.lengths.corner_length.Goals as goal
-use Rattle.off.proofs.lengths.corner_length.Goals.{After-signed_length-x, After-signed_length-z, Start}
+use Rattle.off.proofs.lengths.corner_length.Goals.{After-signed_length-z}
 
 pub signed_length-x-requires : goal.signed_length-x-requires
 signed_length-x-requires c = rw (back w32 c.signed_length-arg-1.given) (near_first c.requires)
@@ -21,37 +21,31 @@ pub signed_length-z-requires : goal.signed_length-z-requires
 signed_length-z-requires c =
     rw (back w32 c.signed_length-arg-3-1.given) (c.requires.near 2 (omega arith))
 
-abbrev x-call : After-signed_length-z → After-signed_length-x
-x-call c = c.before.before.before.before
-
-abbrev start : After-signed_length-z → Start
-start c = (x-call c).before.before
-
 all_three : (c : After-signed_length-z) →
-    (x-call c).signed_length-x.result + c.signed_length-y.result + c.signed_length-z.result + 3
-    ≡ length (corner_line (start c).args.list.now (start c).args.i)
+    (c.before.before.before.before).signed_length-x.result + c.signed_length-y.result + c.signed_length-z.result + 3
+    ≡ length (corner_line (c.before.before.before.before.before.before).args.list.now (c.before.before.before.before.before.before).args.i)
 all_three c =
-    let x = x-call c in
+    let x = c.before.before.before.before in
     omega (
       arith,
       rw (back w32 x.signed_length-arg-1.given) at x.signed_length-x.ensures,
       rw (back w32 c.signed_length-arg-2-1.given) at c.signed_length-y.ensures,
       rw (back w32 c.signed_length-arg-3-1.given) at c.signed_length-z.ensures,
-      corner-length-is (start c).args.list.now (start c).args.i,
+      corner-length-is (c.before.before.before.before.before.before).args.list.now (c.before.before.before.before.before.before).args.i,
     )
 
 small : (c : After-signed_length-z) →
-    (x-call c).signed_length-x.result + c.signed_length-y.result + c.signed_length-z.result + 3 ≤ 27
-small c = omega (arith, all_three c, corner-most (start c).args.list.now (start c).args.i)
+    (c.before.before.before.before).signed_length-x.result + c.signed_length-y.result + c.signed_length-z.result + 3 ≤ 27
+small c = omega (arith, all_three c, corner-most (c.before.before.before.before.before.before).args.list.now (c.before.before.before.before.before.before).args.i)
 
 pub overflow_add-result : goal.overflow_add-result
-overflow_add-result c = omega (arith, small c)
+overflow_add-result c = omega (arith, small (goal.at.overflow_add-result c).After-signed_length-z)
 
 pub overflow_add-result-2 : goal.overflow_add-result-2
-overflow_add-result-2 c = omega (arith, small c)
+overflow_add-result-2 c = omega (arith, small (goal.at.overflow_add-result-2 c).After-signed_length-z)
 
 pub overflow_add-result-3 : goal.overflow_add-result-3
-overflow_add-result-3 c = omega (arith, small c)
+overflow_add-result-3 c = omega (arith, small (goal.at.overflow_add-result-3 c).After-signed_length-z)
 
 pub returns : goal.returns
 returns c = all_three c

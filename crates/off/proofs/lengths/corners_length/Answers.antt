@@ -24,4 +24,4 @@ pub loop-i-init : goal.loop-i-init
 loop-i-init c = omega (arith, corners-none c.args.list.now)
 
 pub corner_length-length-requires : goal.corner_length-length-requires
-corner_length-length-requires c = let loop = c.before in near-at loop.requires loop.loop-i.i (omega arith)
+corner_length-length-requires c = near-at c.requires c.loop-i.i (omega arith)

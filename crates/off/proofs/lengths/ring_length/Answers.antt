@@ -48,10 +48,10 @@ pub overflow_add-length : goal.overflow_add-length
 overflow_add-length c = omega (arith, number-most c.args.n)
 
 pub loop-l-init : goal.loop-l-init
-loop-l-init c = let start = c.before.before in omega (arith, spaced-none (take start.args.n start.args.bytes.now))
+loop-l-init c = omega (arith, spaced-none (take c.args.n c.args.bytes.now))
 
 pub bounds-bytes-l : goal.bounds-bytes-l
-bounds-bytes-l c = let loop = c.before.before in omega (arith, loop.requires.room, loop.requires.few)
+bounds-bytes-l c = omega (arith, c.requires.room, c.requires.few)
 
 pub overflow_cast-bytes : goal.overflow_cast-bytes
 overflow_cast-bytes c = omega (arith, c.shared_slice_known-in-loop-l-1.given c.loop-l.l)
@@ -60,4 +60,4 @@ pub number_length-requires : goal.number_length-requires
 number_length-requires c = omega (arith, c.shared_slice_known-in-loop-l-1.given c.loop-l.l)
 
 pub loop-l-preserved : goal.loop-l-preserved
-loop-l-preserved c = omega (arith, more c)
+loop-l-preserved c = omega (arith, more (goal.at.loop-l-preserved c).After-number_length)

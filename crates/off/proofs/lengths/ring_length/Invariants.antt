@@ -7,7 +7,7 @@ use Rattle.off.specs.Writing.{spaced}
 use Rattle.off.proofs.lengths.ring_length.Given as goal
 
 abbrev pub invariant-loop-l : goal.invariant-loop-l
-invariant-loop-l l = (l.l ≤ l.n) × (l.length ≡ long (number l.n) + 1 + long (spaced (take l.n l.bytes) l.l))
+invariant-loop-l v = (v.l ≤ v.n) × (v.length ≡ long (number v.n) + 1 + long (spaced (take v.n v.bytes) v.l))
 
 abbrev pub decreases-loop-l : goal.decreases-loop-l
-decreases-loop-l l = l.n - l.l
+decreases-loop-l v = v.n - v.l

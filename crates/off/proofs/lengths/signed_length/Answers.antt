@@ -31,9 +31,7 @@ overflow_add-result c =
 
 pub returns-then-z-lt0 : goal.returns-then-z-lt0
 returns-then-z-lt0 c =
-    let test = (goal.at.returns-then-z-lt0 c).Then-z-lt0 in
-    let start = test.before in
-    rw (signed-minus _ (below test)) (omega (arith, rw (minus_is start.args.z start.requires, neg_size) at c.number_length.ensures))
+    rw (signed-minus _ (below (goal.at.returns-then-z-lt0 c).Then-z-lt0)) (omega (arith, rw (minus_is c.args.z c.requires, neg_size) at c.number_length.ensures))
 
 pub overflow_cast-z-2 : goal.overflow_cast-z-2
 overflow_cast-z-2 c = rw (to_z-of_z c.ranges.z) (plus_cast c.args.z (above (goal.at.overflow_cast-z-2 c).Else-z-lt0), omega arith)
@@ -43,8 +41,7 @@ number_length-requires-2 c = rw (to_z-of_z c.ranges.z) (omega arith)
 
 pub returns : goal.returns
 returns c =
-    let test = (goal.at.returns c).Else-z-lt0 in
-    rw (signed-plus _ (above test)) (rw (to_z-of_z test.ranges.z) at c.number_length-2.ensures)
+    rw (signed-plus _ (above (goal.at.returns c).Else-z-lt0)) (rw (to_z-of_z c.ranges.z) at c.number_length-2.ensures)
 
 pub overflow_sub-z : goal.overflow_sub-z
 overflow_sub-z c = minus_fits c.args.z c.requires

@@ -51,10 +51,10 @@ returns c =
     record { all = loop.invariant.those; is = all_read coordinate loop.invariant.sofar (omega arith); lie = loop.invariant.lie }
 
 pub shape_of-list-in-None : goal.shape_of-list-in-None
-shape_of-list-in-None c = let call = c.before.before in long-before call.before.before
+shape_of-list-in-None c = long-before (goal.at.shape_of-list-in-None c).At-loop-i
 
 pub bounds-list-i : goal.bounds-list-i
-bounds-list-i c = let call = c.before.before.before in omega (arith, long call.before.before)
+bounds-list-i c = omega (arith, long (goal.at.bounds-list-i c).At-loop-i)
 
 pub shape_of-list : goal.shape_of-list
-shape_of-list c = long-before c.before
+shape_of-list c = long-before (goal.at.shape_of-list c).At-loop-i

@@ -14,7 +14,7 @@ pub record Taken (s : List ℕ) (at n limit : ℕ) (bytes : List ℕ) (next : �
   pub placed : Placed limit ring l bytes below
 
 abbrev pub invariant-loop-l : goal.invariant-loop-l
-invariant-loop-l l = Taken l.s l.at l.n l.limit l.bytes l.next l.below l.l
+invariant-loop-l v = Taken v.s v.at v.n v.limit v.bytes v.next v.below v.l
 
 abbrev pub decreases-loop-l : goal.decreases-loop-l
-decreases-loop-l l = l.n - l.l
+decreases-loop-l v = v.n - v.l

@@ -28,27 +28,21 @@ here : (c : In-Found-2) →
     let call = c.before.before.before in
     let turn = call.before.before.before in
     let x = turn.args in
-    RingHere x.s.now (get_or x.t1.n 0 0) (ring (drop turn.loop.next x.s.now))
-    c.in-Found.below c.in-Found.length c.in-Found.after call.read_ring.new.1.1.1.0
+    RingHere x.s.now (get_or x.c.n 0 0) (ring (drop turn.loop.next x.s.now))
+    c.in-Found.below c.in-Found.length c.in-Found.after call.read_ring.new.bytes
 here c = let call = c.before.before.before in rw c.in-Found.is at call.read_ring.ensures
 
 -- its bytes are as many as before
-long : (c : After-read_ring) → length c.read_ring.new.1.1.1.0 ≡ 96
+long : (c : After-read_ring) → length c.read_ring.new.bytes ≡ 96
 long c = c.read_ring.auto.1.1.1.0 ∙ c.loop.invariant.room
 
 pub sew_next-so_far-requires : goal.sew_next-so_far-requires
 sew_next-so_far-requires c =
-    let arm = (goal.at.sew_next-so_far-requires c).In-Found-2 in
-    let call = arm.before.before.before in
-    let turn = call.before.before.before in
-    next-ring turn.loop.invariant turn.requires.few call.loop-test.true (here arm) (long call)
+    next-ring c.loop.invariant c.requires.few c.loop-test.true (here (goal.at.sew_next-so_far-requires c).In-Found-2) (long (goal.at.sew_next-so_far-requires c).After-read_ring)
 
 pub loop-preserved : goal.loop-preserved
 loop-preserved c =
-    let arm = (goal.at.loop-preserved c).In-Found-2 in
-    let call = arm.before.before.before in
-    let turn = call.before.before.before in
-    going_on turn.loop.invariant turn.requires.few call.loop-test.true (here arm) (long call) c.sew_next-so_far.ensures
+    going_on c.loop.invariant c.requires.few c.loop-test.true (here (goal.at.loop-preserved c).In-Found-2) (long (goal.at.loop-preserved c).After-read_ring) c.sew_next-so_far.ensures
 
 pub returns : goal.returns
 returns c = going_done c.loop.invariant (omega arith)
@@ -69,22 +63,22 @@ pub slice_bounds-read_ring-end : goal.slice_bounds-read_ring-end
 slice_bounds-read_ring-end c = sym c.loop.invariant.room
 
 pub shape_of-m1-in-None : goal.shape_of-m1-in-None
-shape_of-m1-in-None c = (sizes (left c)).0
+shape_of-m1-in-None c = (sizes (left (goal.at.shape_of-m1-in-None c).After-counts-1)).0
 
 pub shape_of-m2-in-None : goal.shape_of-m2-in-None
-shape_of-m2-in-None c = (sizes (left c)).1
+shape_of-m2-in-None c = (sizes (left (goal.at.shape_of-m2-in-None c).After-counts-1)).1
 
 pub shape_of-m3-in-None : goal.shape_of-m3-in-None
-shape_of-m3-in-None c = (sizes (left c)).2
+shape_of-m3-in-None c = (sizes (left (goal.at.shape_of-m3-in-None c).After-counts-1)).2
 
 pub slice_bounds-sew_next-end : goal.slice_bounds-sew_next-end
-slice_bounds-sew_next-end c = let arm = c.before.before in sym (long arm.before.before.before)
+slice_bounds-sew_next-end c = sym (long (goal.at.slice_bounds-sew_next-end c).After-read_ring)
 
 pub shape_of-m1 : goal.shape_of-m1
-shape_of-m1 c = (sizes c.before.before).0
+shape_of-m1 c = (sizes (goal.at.shape_of-m1 c).At-loop).0
 
 pub shape_of-m2 : goal.shape_of-m2
-shape_of-m2 c = (sizes c.before.before).1
+shape_of-m2 c = (sizes (goal.at.shape_of-m2 c).At-loop).1
 
 pub shape_of-m3 : goal.shape_of-m3
-shape_of-m3 c = (sizes c.before.before).2
+shape_of-m3 c = (sizes (goal.at.shape_of-m3 c).At-loop).2

@@ -19,4 +19,4 @@ returns c =
     next-sewn c.requires (omega arith) c.if-not-below.false (omega arith) c.sew_ring.ensures
 
 pub returns-then-before-ne-ACCEPTED : goal.returns-then-before-ne-ACCEPTED
-returns-then-before-ne-ACCEPTED c = let start = c.before.before.before in next-stays start.requires (omega arith)
+returns-then-before-ne-ACCEPTED c = next-stays c.requires (omega arith)

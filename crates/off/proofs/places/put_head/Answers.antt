@@ -10,31 +10,31 @@ use Rattle.off.proofs.places.put_head.Goals.{After-put-after_a, After-put-after_
 
 -- from a blank back to the entry
 abbrev at_entry : After-put-after_a → Start
-at_entry c = before-keyword (before-corners c.before.before.before.before)
+at_entry c = c.before.before.before.before.before.before.before.before.before.before.before.before
 
 abbrev at-entry2 : After-put-after_b → Start
-at-entry2 c = at_entry (before-panels c.before.before.before.before)
+at-entry2 c = at_entry c.before.before.before.before.before.before.before.before
 
 -- the room that is left after each call
 after-keyword : (c : After-put_all-first) → let a = c.args in
-    c.put_all-first.result + (length (number a.corners) + length (number a.panels) + length (number a.seams) + 3) ≤ length c.put_all-first.new.0
+    c.put_all-first.result + (length (number a.corners) + length (number a.panels) + length (number a.seams) + 3) ≤ length c.put_all-first.new.out
 after-keyword c =
     let a = c.args in
     omega (arith, head-length-is a.corners a.panels a.seams, c.requires.room, c.put_all-first.ensures.place, c.put_all-first.ensures.size)
 
-after-corners : (c : After-put_number-a) → let a = (before-keyword c.before.before.before.before).args in
-    c.put_number-a.result + (length (number a.panels) + length (number a.seams) + 3) ≤ length c.put_number-a.new.0
+after-corners : (c : After-put_number-a) → let a = c.args in
+    c.put_number-a.result + (length (number a.panels) + length (number a.seams) + 3) ≤ length c.put_number-a.new.out
 after-corners c = omega (arith, after-keyword c.before.before.before.before, c.put_number-a.ensures.place, c.put_number-a.ensures.size)
 
 after-blank : (c : After-put-after_a) → let a = (at_entry c).args in
-    c.put-after_a.result + (length (number a.panels) + length (number a.seams) + 2) ≤ length c.put-after_a.new.0
+    c.put-after_a.result + (length (number a.panels) + length (number a.seams) + 2) ≤ length c.put-after_a.new.out
 after-blank c = omega (arith, after-corners c.before.before.before.before, c.put-after_a.ensures.place, c.put-after_a.ensures.size)
 
 after-panels : (c : After-put_number-b) → let a = (at_entry c.before.before.before.before).args in
-    c.put_number-b.result + (length (number a.seams) + 2) ≤ length c.put_number-b.new.0
+    c.put_number-b.result + (length (number a.seams) + 2) ≤ length c.put_number-b.new.out
 after-panels c = omega (arith, after-blank c.before.before.before.before, c.put_number-b.ensures.place, c.put_number-b.ensures.size)
 
-after-blank2 : (c : After-put-after_b) → c.put-after_b.result + (length (number (at-entry2 c).args.seams) + 1) ≤ length c.put-after_b.new.0
+after-blank2 : (c : After-put-after_b) → c.put-after_b.result + (length (number (at-entry2 c).args.seams) + 1) ≤ length c.put-after_b.new.out
 after-blank2 c = omega (arith, after-panels c.before.before.before.before, c.put-after_b.ensures.place, c.put-after_b.ensures.size)
 
 pub put_all-first-requires : goal.put_all-first-requires
@@ -44,24 +44,21 @@ put_all-first-requires c =
 
 pub put_number-a-requires : goal.put_number-a-requires
 put_number-a-requires c =
-    let keyword = (goal.at.put_number-a-requires c).After-put_all-first in
-    record { small = omega (arith, keyword.requires.few-corners); room = omega (arith, after-keyword keyword) }
+    record { small = omega (arith, c.requires.few-corners); room = omega (arith, after-keyword (goal.at.put_number-a-requires c).After-put_all-first) }
 
 pub put_number-b-requires : goal.put_number-b-requires
 put_number-b-requires c =
-    let blank = (goal.at.put_number-b-requires c).After-put-after_a in
-    record { small = omega (arith, (at_entry blank).requires.few-panels); room = omega (arith, after-blank blank) }
+    record { small = omega (arith, (at_entry (goal.at.put_number-b-requires c).After-put-after_a).requires.few-panels); room = omega (arith, after-blank (goal.at.put_number-b-requires c).After-put-after_a) }
 
 pub put_number-d-requires : goal.put_number-d-requires
 put_number-d-requires c =
-    let blank = (goal.at.put_number-d-requires c).After-put-after_b in
-    record { small = omega (arith, (at-entry2 blank).requires.few-seams); room = omega (arith, after-blank2 blank) }
+    record { small = omega (arith, (at-entry2 (goal.at.put_number-d-requires c).After-put-after_b).requires.few-seams); room = omega (arith, after-blank2 (goal.at.put_number-d-requires c).After-put-after_b) }
 
 pub put-after_a-requires : goal.put-after_a-requires
-put-after_a-requires c = let corners = (goal.at.put-after_a-requires c).After-put_number-a in omega (arith, after-corners corners)
+put-after_a-requires c = omega (arith, after-corners (goal.at.put-after_a-requires c).After-put_number-a)
 
 pub put-after_b-requires : goal.put-after_b-requires
-put-after_b-requires c = let panels = (goal.at.put-after_b-requires c).After-put_number-b in omega (arith, after-panels panels)
+put-after_b-requires c = omega (arith, after-panels (goal.at.put-after_b-requires c).After-put_number-b)
 
 pub put-requires : goal.put-requires
 put-requires c =

@@ -10,7 +10,7 @@ use Rattle.off.proofs.places.put_ring.Goals.{After-put_number-length}
 
 -- the room that is left after the count
 after-count : (c : After-put_number-length) → let a = c.args in
-    c.put_number-length.result + (length (spaced (take a.n a.bytes.now) a.n) + 1) ≤ length c.put_number-length.new.0
+    c.put_number-length.result + (length (spaced (take a.n a.bytes.now) a.n) + 1) ≤ length c.put_number-length.new.out
 after-count c =
     let pre = c.requires in
     omega (arith, ring-line-length pre.corners, pre.room, c.put_number-length.ensures.place, c.put_number-length.ensures.size)
@@ -22,8 +22,7 @@ put_number-length-requires c =
 
 pub put_spaced-corners-requires : goal.put_spaced-corners-requires
 put_spaced-corners-requires c =
-    let count = (goal.at.put_spaced-corners-requires c).After-put_number-length in
-    record { corners = count.requires.corners; room = omega (arith, after-count count) }
+    record { corners = c.requires.corners; room = omega (arith, after-count (goal.at.put_spaced-corners-requires c).After-put_number-length) }
 
 pub put-requires : goal.put-requires
 put-requires c =

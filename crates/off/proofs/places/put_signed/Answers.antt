@@ -12,10 +12,7 @@ use Rattle.maths.proofs.Buffers.{two_pieces}
 use Rattle.off.specs.Exporting.{number, signed}
 use Rattle.off.proofs.lengths.Signs.{signed-minus, minus_cast, signed-plus, plus_cast, minus_fits, minus_is}
 use Rattle.off.proofs.places.put_signed.Goals as goal
-use Rattle.off.proofs.places.put_signed.Goals.{After-put_number-arg-1, Else-z-lt0, Start, Then-z-lt0}
-
-abbrev start : After-put_number-arg-1 → Start
-start c = tested c.before.before.before.before.before
+use Rattle.off.proofs.places.put_signed.Goals.{Else-z-lt0, Then-z-lt0}
 
 below : (c : Then-z-lt0) → lt_z c.args.z (pos 0) ≡ true
 below c = rw (to_z-of_z c.ranges.z) at c.if-z-lt0.true
@@ -32,22 +29,19 @@ put-next-requires c = omega (arith, longer (goal.at.put-next-requires c).Then-z-
 
 pub overflow_cast-z : goal.overflow_cast-z
 overflow_cast-z c =
-    let s = start (goal.at.overflow_cast-z c).After-put_number-arg-1 in
-    rw (minus_is s.args.z s.requires.near) (minus_cast s.args.z (below (goal.at.overflow_cast-z c).Then-z-lt0), rw neg_size (omega (arith, s.requires.near)))
+    rw (minus_is c.args.z c.requires.near) (minus_cast c.args.z (below (goal.at.overflow_cast-z c).Then-z-lt0), rw neg_size (omega (arith, c.requires.near)))
 
 pub put_number-requires : goal.put_number-requires
 put_number-requires c =
-    let s = start (goal.at.put_number-requires c).After-put_number-arg-1 in
-    rw (minus_is s.args.z s.requires.near, neg_size) (record {
-      small = omega (arith, s.requires.near);
-      room = omega (arith, longer (goal.at.put_number-requires c).Then-z-lt0, s.requires.room, c.put-next.ensures.place, c.put-next.ensures.size);
+    rw (minus_is c.args.z c.requires.near, neg_size) (record {
+      small = omega (arith, c.requires.near);
+      room = omega (arith, longer (goal.at.put_number-requires c).Then-z-lt0, c.requires.room, c.put-next.ensures.place, c.put-next.ensures.size);
     })
 
 pub returns-then-z-lt0 : goal.returns-then-z-lt0
 returns-then-z-lt0 c =
-    let s = start (goal.at.returns-then-z-lt0 c).After-put_number-arg-1 in
     rw (signed-minus _ (below (goal.at.returns-then-z-lt0 c).Then-z-lt0))
-    (two_pieces c.put-next.ensures (rw (minus_is s.args.z s.requires.near, neg_size) at c.put_number.ensures))
+    (two_pieces c.put-next.ensures (rw (minus_is c.args.z c.requires.near, neg_size) at c.put_number.ensures))
 
 pub overflow_cast-z-2 : goal.overflow_cast-z-2
 overflow_cast-z-2 c =
@@ -59,9 +53,7 @@ put_number-requires-2 c =
 
 pub returns : goal.returns
 returns c =
-    let test = (goal.at.returns c).Else-z-lt0 in
-    let start = test.before.before in
-    rw (signed-plus _ (above test)) (rw (to_z-of_z start.ranges.z) at c.put_number-2.ensures)
+    rw (signed-plus _ (above (goal.at.returns c).Else-z-lt0)) (rw (to_z-of_z c.ranges.z) at c.put_number-2.ensures)
 
 pub overflow_sub-z : goal.overflow_sub-z
-overflow_sub-z c = minus_fits (start c).args.z (start c).requires.near
+overflow_sub-z c = minus_fits c.args.z c.requires.near

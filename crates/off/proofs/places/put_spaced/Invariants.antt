@@ -6,7 +6,7 @@ use Rattle.off.specs.Writing.{after_blank}
 use Rattle.off.proofs.places.put_spaced.Given as goal
 
 abbrev pub invariant-loop-l : goal.invariant-loop-l
-invariant-loop-l l = Pieces (λ l. after_blank (get_or (take l.n l.bytes) l 0)) l.n l.l l.initial.out l.at l.next l.out
+invariant-loop-l v = Pieces (λ l. after_blank (get_or (take v.n v.bytes) l 0)) v.n v.l v.initial.out v.at v.next v.out
 
 abbrev pub decreases-loop-l : goal.decreases-loop-l
-decreases-loop-l l = l.n - l.l
+decreases-loop-l v = v.n - v.l

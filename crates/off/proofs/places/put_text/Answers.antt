@@ -22,31 +22,28 @@ size s = let a = s.args in text-length-is a.c a.m2.now a.tails.now a.heads.now a
 
 pub put_head-corners-requires : goal.put_head-corners-requires
 put_head-corners-requires c =
-    let s = (goal.at.put_head-corners-requires c).Start in
-    let measured = s.requires.measured in
+    let measured = c.requires.measured in
     record {
       few-corners = measured.near.few;
       few-panels = measured.panels.columns.few;
       few-seams = measured.panels.ends.few;
-      room = omega (arith, size s, s.requires.room);
+      room = omega (arith, size (goal.at.put_head-corners-requires c).Start, c.requires.room);
     }
 
 pub put_corners-panels-requires : goal.put_corners-panels-requires
 put_corners-panels-requires c =
-    let s = (goal.at.put_corners-panels-requires c).Start in
     record {
-      corners = s.requires.measured.near;
-      room = omega (arith, size s, s.requires.room, c.put_head-corners.ensures.place, c.put_head-corners.ensures.size);
+      corners = c.requires.measured.near;
+      room = omega (arith, size (goal.at.put_corners-panels-requires c).Start, c.requires.room, c.put_head-corners.ensures.place, c.put_head-corners.ensures.size);
     }
 
 pub put_rings-requires : goal.put_rings-requires
 put_rings-requires c =
-    let s = (goal.at.put_rings-requires c).Start in
     let upto = two_pieces c.put_head-corners.ensures c.put_corners-panels.ensures in
     record {
-      there = s.requires.measured.panels;
-      close = s.requires.close;
-      room = omega (arith, size s, s.requires.room, c.put_head-corners.ensures.place, c.put_corners-panels.ensures.place, upto.size);
+      there = c.requires.measured.panels;
+      close = c.requires.close;
+      room = omega (arith, size (goal.at.put_rings-requires c).Start, c.requires.room, c.put_head-corners.ensures.place, c.put_corners-panels.ensures.place, upto.size);
     }
 
 pub returns : goal.returns

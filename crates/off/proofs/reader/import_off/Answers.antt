@@ -3,38 +3,28 @@ use mathlib.Core.Path.{◌≡◌, refl, sym, ap, ◌∙◌}
 use mathlib.Core.Bool.{true}
 use lib.ListN.{length}
 use Rattle.maths.proofs.Tables.{length-tab, length-table}
-use Rattle.rules.specs.Complex.{Pattern, Sized, counts_of, empty}
+use Rattle.rules.specs.Complex.{Sized, counts_of, empty}
 use Rattle.rules.specs.Calls.{sized}
 use Rattle.rules.specs.Lending.{as_lent}
 use Rattle.rules.proofs.Storage.Stored.{all-sized}
 use Rattle.off.proofs.reader.ImportAnswers.{short-matrix, short_list, refused-left, taken-left}
 use Rattle.off.proofs.reader.import_off.Goals as goal
-use Rattle.off.proofs.reader.import_off.Goals.{After-no_pattern-then-answer-ne-ACCEPTED, After-read_text-answer, Else-list-ne-COORDINATES, Else-not-is_sized, Start}
+use Rattle.off.proofs.reader.import_off.Goals.{After-no_pattern-then-answer-ne-ACCEPTED, After-read_text-answer, Else-list-ne-COORDINATES, Else-not-is_sized}
 
--- the matrices at entry
-abbrev entry : (c : Start) → Pattern
-entry c = let a = c.args in as_lent (counts_of empty) a.m1 a.m2 a.m3
-
--- where the lengths passed
-abbrev begun : Else-list-ne-COORDINATES → Start
-begun c = c.before.before.before.before.before.before.before
-
-long : (c : Else-not-is_sized) → sized (entry c.before.before.before.before.before.before) ≡ true
+long : (c : Else-not-is_sized) → sized (as_lent (counts_of empty) c.args.m1.now c.args.m2.now c.args.m3.now) ≡ true
 long c = sym c.is_sized.ensures ∙ c.if-not-is_sized.false
 
-sizes : (c : Else-list-ne-COORDINATES) → Sized (entry (begun c))
-sizes c = all-sized (entry (begun c)) refl (long c.before)
+sizes : (c : Else-list-ne-COORDINATES) → Sized (as_lent (counts_of empty) c.args.m1.now c.args.m2.now c.args.m3.now)
+sizes c = all-sized (as_lent (counts_of empty) c.args.m1.now c.args.m2.now c.args.m3.now) refl (long c.before)
 
 pub returns-then-not-is_sized : goal.returns-then-not-is_sized
 returns-then-not-is_sized c =
-    let s = c.before.before.before.before.before.before.before in
     rw c.no_pattern.ensures
-    (short-matrix s.args.s.now (entry s) s.args.list.now (sym c.is_sized.ensures ∙ c.if-not-is_sized.true))
+    (short-matrix c.args.s.now (as_lent (counts_of empty) c.args.m1.now c.args.m2.now c.args.m3.now) c.args.list.now (sym c.is_sized.ensures ∙ c.if-not-is_sized.true))
 
 pub returns-then-list-ne-COORDINATES : goal.returns-then-list-ne-COORDINATES
 returns-then-list-ne-COORDINATES c =
-    let s = c.before.before.before.before.before.before.before.before in
-    rw c.no_pattern-then-list-ne-COORDINATES.ensures (short_list s.args.s.now (entry s) s.args.list.now (long (goal.at.returns-then-list-ne-COORDINATES c).Else-not-is_sized) c.if-list-ne-COORDINATES.true)
+    rw c.no_pattern-then-list-ne-COORDINATES.ensures (short_list c.args.s.now (as_lent (counts_of empty) c.args.m1.now c.args.m2.now c.args.m3.now) c.args.list.now (long (goal.at.returns-then-list-ne-COORDINATES c).Else-not-is_sized) c.if-list-ne-COORDINATES.true)
 
 -- before the text is all.before.before.before.before.before.before.before.before is blank
 pub read_text-answer-requires : goal.read_text-answer-requires
@@ -48,19 +38,17 @@ passed c =
 
 pub returns-then-answer-ne-ACCEPTED : goal.returns-then-answer-ne-ACCEPTED
 returns-then-answer-ne-ACCEPTED c =
-    let call = (goal.at.returns-then-answer-ne-ACCEPTED c).After-read_text-answer in
-    let lengths = passed call in
-    let s = begun lengths in
-    refused-left s.args.s.now (entry s) s.args.list.now (long lengths.before) lengths.if-list-ne-COORDINATES.false call.read_text-answer.ensures c.if-answer-ne-ACCEPTED.true
+    let lengths = passed (goal.at.returns-then-answer-ne-ACCEPTED c).After-read_text-answer in
+    let s = lengths.before.before.before.before.before.before.before in
+    refused-left s.args.s.now (as_lent (counts_of empty) s.args.m1.now s.args.m2.now s.args.m3.now) s.args.list.now (long lengths.before) lengths.if-list-ne-COORDINATES.false c.read_text-answer.ensures c.if-answer-ne-ACCEPTED.true
     c.no_pattern-then-answer-ne-ACCEPTED.ensures
     (record { none1 = c.clear-then-answer-ne-ACCEPTED.ensures; none2 = c.clear-then-answer-ne-ACCEPTED-2.ensures; none3 = c.clear-4.ensures; zeros = c.clear_coordinates-then-answer-ne-ACCEPTED.ensures })
 
 pub returns : goal.returns
 returns c =
-    let call = (goal.at.returns c).After-read_text-answer in
-    let lengths = passed call in
-    let s = begun lengths in
-    taken-left s.args.s.now (entry s) s.args.list.now (long lengths.before) lengths.if-list-ne-COORDINATES.false call.read_text-answer.ensures c.if-answer-ne-ACCEPTED.false
+    let lengths = passed (goal.at.returns c).After-read_text-answer in
+    let s = lengths.before.before.before.before.before.before.before in
+    taken-left s.args.s.now (as_lent (counts_of empty) s.args.m1.now s.args.m2.now s.args.m3.now) s.args.list.now (long lengths.before) lengths.if-list-ne-COORDINATES.false c.read_text-answer.ensures c.if-answer-ne-ACCEPTED.false
     c.clear-4.ensures
 
 -- what the reading left, before matrix 1 is cleared again
@@ -72,34 +60,34 @@ clear-again : (c : After-no_pattern-then-answer-ne-ACCEPTED) → Sized (entry (b
 clear-again c = sizes (passed (left c))
 
 pub clear-requires : goal.clear-requires
-clear-requires c = (sizes c.before).size1
+clear-requires c = (sizes (goal.at.clear-requires c).Else-list-ne-COORDINATES).size1
 
 pub clear-requires-2 : goal.clear-requires-2
-clear-requires-2 c = let lengths = c.before.before.before.before in (sizes lengths).size2
+clear-requires-2 c = (sizes (goal.at.clear-requires-2 c).Else-list-ne-COORDINATES).size2
 
 pub clear-requires-3 : goal.clear-requires-3
-clear-requires-3 c = let lengths = c.before.before.before.before.before.before.before in (sizes lengths).size3
+clear-requires-3 c = (sizes (goal.at.clear-requires-3 c).Else-list-ne-COORDINATES).size3
 
 pub shape_of-m1-then-answer-ne-ACCEPTED : goal.shape_of-m1-then-answer-ne-ACCEPTED
-shape_of-m1-then-answer-ne-ACCEPTED c = ap length c.clear-then-answer-ne-ACCEPTED.ensures ∙ length-tab _ ∙ sym (clear-again c).size1
+shape_of-m1-then-answer-ne-ACCEPTED c = ap length c.clear-then-answer-ne-ACCEPTED.ensures ∙ length-tab _ ∙ sym (clear-again (goal.at.shape_of-m1-then-answer-ne-ACCEPTED c).After-no_pattern-then-answer-ne-ACCEPTED).size1
 
 pub shape_of-m2-then-answer-ne-ACCEPTED : goal.shape_of-m2-then-answer-ne-ACCEPTED
-shape_of-m2-then-answer-ne-ACCEPTED c = let second = c.before.before.before.before.before in ap length second.clear-then-answer-ne-ACCEPTED-2.ensures ∙ length-tab _ ∙ sym (clear-again c).size2
+shape_of-m2-then-answer-ne-ACCEPTED c = ap length c.clear-then-answer-ne-ACCEPTED-2.ensures ∙ length-tab _ ∙ sym (clear-again (goal.at.shape_of-m2-then-answer-ne-ACCEPTED c).After-no_pattern-then-answer-ne-ACCEPTED).size2
 
 pub shape_of-m3-then-answer-ne-ACCEPTED : goal.shape_of-m3-then-answer-ne-ACCEPTED
-shape_of-m3-then-answer-ne-ACCEPTED c = let third = c.before.before.before.before.before.before.before.before.before.before.before.before.before in ap length third.clear-4.ensures ∙ length-tab _ ∙ sym (clear-again c).size3
+shape_of-m3-then-answer-ne-ACCEPTED c = ap length c.clear-4.ensures ∙ length-tab _ ∙ sym (clear-again (goal.at.shape_of-m3-then-answer-ne-ACCEPTED c).After-no_pattern-then-answer-ne-ACCEPTED).size3
 
 pub shape_of-list-then-answer-ne-ACCEPTED : goal.shape_of-list-then-answer-ne-ACCEPTED
-shape_of-list-then-answer-ne-ACCEPTED c = let lengths = passed (left c) in ap length c.clear_coordinates-then-answer-ne-ACCEPTED.ensures ∙ length-table 0 288 _ ∙ sym lengths.if-list-ne-COORDINATES.false
+shape_of-list-then-answer-ne-ACCEPTED c = let lengths = passed (left (goal.at.shape_of-list-then-answer-ne-ACCEPTED c).After-no_pattern-then-answer-ne-ACCEPTED) in ap length c.clear_coordinates-then-answer-ne-ACCEPTED.ensures ∙ length-table 0 288 _ ∙ sym lengths.if-list-ne-COORDINATES.false
 
 pub shape_of-m1 : goal.shape_of-m1
-shape_of-m1 c = let call = c.before.before.before.before.before.before.before.before.before in call.read_text-answer.ensures.sizes.size1 ∙ sym (sizes (passed call)).size1
+shape_of-m1 c = c.read_text-answer.ensures.sizes.size1 ∙ sym (sizes (passed (goal.at.shape_of-m1 c).After-read_text-answer)).size1
 
 pub shape_of-m2 : goal.shape_of-m2
-shape_of-m2 c = let call = c.before.before.before.before.before.before.before.before.before in call.read_text-answer.ensures.sizes.size2 ∙ sym (sizes (passed call)).size2
+shape_of-m2 c = c.read_text-answer.ensures.sizes.size2 ∙ sym (sizes (passed (goal.at.shape_of-m2 c).After-read_text-answer)).size2
 
 pub shape_of-m3 : goal.shape_of-m3
-shape_of-m3 c = let third = c.before.before.before in ap length third.clear-4.ensures ∙ length-tab _ ∙ sym (sizes (passed c.before.before.before.before.before.before.before.before.before)).size3
+shape_of-m3 c = ap length c.clear-4.ensures ∙ length-tab _ ∙ sym (sizes (passed (goal.at.shape_of-m3 c).After-read_text-answer)).size3
 
 pub shape_of-list : goal.shape_of-list
-shape_of-list c = let call = c.before.before.before.before.before.before.before.before.before in call.read_text-answer.ensures.size ∙ sym (passed call).if-list-ne-COORDINATES.false
+shape_of-list c = c.read_text-answer.ensures.size ∙ sym (passed (goal.at.shape_of-list c).After-read_text-answer).if-list-ne-COORDINATES.false

@@ -18,22 +18,20 @@ low c =
 
 pub returns-then-seen-c-ne0 : goal.returns-then-seen-c-ne0
 returns-then-seen-c-ne0 c =
-    let turn = (goal.at.returns-then-seen-c-ne0 c).In-loop-l in
-    marked_again turn.loop-l.invariant (omega arith) (low turn) (omega arith) (omega arith)
+    marked_again c.loop-l.invariant (omega arith) (low (goal.at.returns-then-seen-c-ne0 c).In-loop-l) (omega arith) (omega arith)
 
 pub loop-l-preserved : goal.loop-l-preserved
 loop-l-preserved c =
-    let turn = (goal.at.loop-l-preserved c).In-loop-l in
-    marked_more turn.loop-l.invariant (omega arith) (low turn) (omega arith) (omega arith)
+    marked_more c.loop-l.invariant (omega arith) (low (goal.at.loop-l-preserved c).In-loop-l) (omega arith) (omega arith)
 
 pub returns : goal.returns
 returns c = marked_all c.loop-l.invariant (omega arith) (omega arith)
 
 pub overflow_cast-c : goal.overflow_cast-c
-overflow_cast-c c = omega (arith, low c.before)
+overflow_cast-c c = omega (arith, low (goal.at.overflow_cast-c c).In-loop-l)
 
 pub bounds-seen-c : goal.bounds-seen-c
-bounds-seen-c c = omega (arith, low c.before)
+bounds-seen-c c = omega (arith, low (goal.at.bounds-seen-c c).In-loop-l)
 
 pub bounds-seen-c-in-loop-l : goal.bounds-seen-c-in-loop-l
-bounds-seen-c-in-loop-l c = omega (arith, low c.before.before)
+bounds-seen-c-in-loop-l c = omega (arith, low (goal.at.bounds-seen-c-in-loop-l c).In-loop-l)

@@ -4,7 +4,7 @@ use Rattle.off.proofs.rings.Marks.{Marked}
 use Rattle.off.proofs.rings.are_distinct.Given as goal
 
 abbrev pub invariant-loop-l : goal.invariant-loop-l
-invariant-loop-l l = Marked l.bytes l.n l.seen l.l
+invariant-loop-l v = Marked v.bytes v.n v.seen v.l
 
 abbrev pub decreases-loop-l : goal.decreases-loop-l
-decreases-loop-l l = l.n - l.l
+decreases-loop-l v = v.n - v.l

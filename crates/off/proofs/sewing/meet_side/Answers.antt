@@ -14,11 +14,11 @@ use Rattle.off.proofs.sewing.meet_side.Goals.{After-is_zero8, Else-not-is_zero8}
 
 -- what the test says
 tested : (c : After-is_zero8) → let x = c.args in
-    c.is_zero8.result ≡ is_zero (seam_of (layer (count_of x.t1 1) x.m1.now) x.a x.b)
+    c.is_zero8.result ≡ is_zero (seam_of (layer (count_of x.c 1) x.m1.now) x.a x.b)
 tested c = rw (← seam_read c.requires c.is_zero8-arg-1.given) c.is_zero8.ensures
 
 absent : (c : Else-not-is_zero8) → let x = c.args in
-    seam_of (layer (count_of x.t1 1) x.m1.now) x.a x.b ≡ pos 0
+    seam_of (layer (count_of x.c 1) x.m1.now) x.a x.b ≡ pos 0
 absent c = zero-true (sym (tested c.before) ∙ c.if-not-is_zero8.false)
 
 pub overflow_add-b : goal.overflow_add-b
@@ -29,21 +29,18 @@ returns-then-not-is_zero8 c = let h = c.requires in joined_there h (zero-false (
 
 pub returns-then-c-eq-SIDE : goal.returns-then-c-eq-SIDE
 returns-then-c-eq-SIDE c =
-    let none = (goal.at.returns-then-c-eq-SIDE c).Else-not-is_zero8 in
-    let h = none.requires in
-    joined_full h (absent none) (omega arith)
+    let h = c.requires in
+    joined_full h (absent (goal.at.returns-then-c-eq-SIDE c).Else-not-is_zero8) (omega arith)
 
 pub add_seam-counts-requires : goal.add_seam-counts-requires
 add_seam-counts-requires c =
-    let none = (goal.at.add_seam-counts-requires c).Else-not-is_zero8 in
-    let h = none.requires in
-    record { corners = h; absent = absent none; add_seam-counts-requires = omega (arith, h.seams.drawn.held.good.few 1) }
+    let h = c.requires in
+    record { corners = h; absent = absent (goal.at.add_seam-counts-requires c).Else-not-is_zero8; add_seam-counts-requires = omega (arith, h.seams.drawn.held.good.few 1) }
 
 pub returns : goal.returns
 returns c =
-    let none = (goal.at.returns c).Else-not-is_zero8 in
-    let h = none.requires in
-    joined_new h (absent none) (omega (arith, h.seams.drawn.held.good.few 1)) c.add_seam-counts.ensures
+    let h = c.requires in
+    joined_new h (absent (goal.at.returns c).Else-not-is_zero8) (omega (arith, h.seams.drawn.held.good.few 1)) c.add_seam-counts.ensures
 
 pub overflow_mul-b : goal.overflow_mul-b
 overflow_mul-b c = omega (arith, second-low c.requires)

@@ -52,13 +52,13 @@ pub overflow_cast-a : goal.overflow_cast-a
 overflow_cast-a c = omega (arith, c.shared_slice_known-in-loop-l-1.given c.loop-l.l)
 
 pub shape_of-m1-then-met-ne-ACCEPTED : goal.shape_of-m1-then-met-ne-ACCEPTED
-shape_of-m1-then-met-ne-ACCEPTED c = (joined_sizes (start (last c)).requires (returns-then-met-ne-ACCEPTED c)).0
+shape_of-m1-then-met-ne-ACCEPTED c = (joined_sizes (start (last (goal.at.shape_of-m1-then-met-ne-ACCEPTED c).Then-met-ne-ACCEPTED)).requires (returns-then-met-ne-ACCEPTED (goal.at.shape_of-m1-then-met-ne-ACCEPTED c).Then-met-ne-ACCEPTED)).0
 
 pub shape_of-m3-then-met-ne-ACCEPTED : goal.shape_of-m3-then-met-ne-ACCEPTED
-shape_of-m3-then-met-ne-ACCEPTED c = (joined_sizes (start (last c)).requires (returns-then-met-ne-ACCEPTED c)).1
+shape_of-m3-then-met-ne-ACCEPTED c = (joined_sizes (start (last (goal.at.shape_of-m3-then-met-ne-ACCEPTED c).Then-met-ne-ACCEPTED)).requires (returns-then-met-ne-ACCEPTED (goal.at.shape_of-m3-then-met-ne-ACCEPTED c).Then-met-ne-ACCEPTED)).1
 
 pub shape_of-m1 : goal.shape_of-m1
-shape_of-m1 c = let start = c.before.before.before in (joined_sizes start.requires (returns c)).0
+shape_of-m1 c = (joined_sizes c.requires (returns (goal.at.shape_of-m1 c).After-loop-l)).0
 
 pub shape_of-m3 : goal.shape_of-m3
-shape_of-m3 c = let start = c.before.before.before in (joined_sizes start.requires (returns c)).1
+shape_of-m3 c = (joined_sizes c.requires (returns (goal.at.shape_of-m3 c).After-loop-l)).1

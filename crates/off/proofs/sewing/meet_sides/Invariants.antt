@@ -5,7 +5,7 @@ use Rattle.off.proofs.sewing.SidesJoined.{Going}
 use Rattle.off.proofs.sewing.meet_sides.Given as goal
 
 abbrev pub invariant-loop-l : goal.invariant-loop-l
-invariant-loop-l l = Going (take l.n l.bytes) l.initial.counts l.initial.m1 l.counts l.m1 l.m3 l.l
+invariant-loop-l v = Going (take v.n v.bytes) v.initial.counts v.initial.m1 v.counts v.m1 v.m3 v.l
 
 abbrev pub decreases-loop-l : goal.decreases-loop-l
-decreases-loop-l l = l.n - l.l
+decreases-loop-l v = v.n - v.l

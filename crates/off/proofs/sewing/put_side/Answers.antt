@@ -14,30 +14,28 @@ against c = taken_against c.ranges.z c.requires.small c.if-z-gt0.false c.require
 
 pub returns-then-z-gt0 : goal.returns-then-z-gt0
 returns-then-z-gt0 c =
-    let test = (goal.at.returns-then-z-gt0 c).Then-z-gt0 in
-    let T = along test in
+    let T = along (goal.at.returns-then-z-gt0 c).Then-z-gt0 in
     rw T.signed (rw T.is at c.set_entry.ensures)
 
 pub returns-else-z-gt0 : goal.returns-else-z-gt0
 returns-else-z-gt0 c =
-    let test = (goal.at.returns-else-z-gt0 c).Else-z-gt0 in
-    let T = against test in
+    let T = against (goal.at.returns-else-z-gt0 c).Else-z-gt0 in
     rw T.signed (rw T.is at c.set_entry-else-z-gt0.ensures)
 
 pub overflow_sub-z : goal.overflow_sub-z
-overflow_sub-z c = (along c.before).fits
+overflow_sub-z c = (along (goal.at.overflow_sub-z c).Then-z-gt0).fits
 
 pub overflow_cast-z : goal.overflow_cast-z
-overflow_cast-z c = taken_fits (along c.before)
+overflow_cast-z c = taken_fits (along (goal.at.overflow_cast-z c).Then-z-gt0)
 
 pub set_entry-requires : goal.set_entry-requires
-set_entry-requires c = taken-lines (along c.before) c.requires.size c.requires.inside
+set_entry-requires c = taken-lines (along (goal.at.set_entry-requires c).Then-z-gt0) c.requires.size c.requires.inside
 
 pub overflow_sub-z-else-z-gt0 : goal.overflow_sub-z-else-z-gt0
-overflow_sub-z-else-z-gt0 c = (against c.before).fits
+overflow_sub-z-else-z-gt0 c = (against (goal.at.overflow_sub-z-else-z-gt0 c).Else-z-gt0).fits
 
 pub overflow_cast-z-else-z-gt0 : goal.overflow_cast-z-else-z-gt0
-overflow_cast-z-else-z-gt0 c = taken_fits (against c.before)
+overflow_cast-z-else-z-gt0 c = taken_fits (against (goal.at.overflow_cast-z-else-z-gt0 c).Else-z-gt0)
 
 pub set_entry-requires-else-z-gt0 : goal.set_entry-requires-else-z-gt0
-set_entry-requires-else-z-gt0 c = taken-lines (against c.before) c.requires.size c.requires.inside
+set_entry-requires-else-z-gt0 c = taken-lines (against (goal.at.set_entry-requires-else-z-gt0 c).Else-z-gt0) c.requires.size c.requires.inside

@@ -49,13 +49,13 @@ pub overflow_cast-a : goal.overflow_cast-a
 overflow_cast-a c = omega (arith, c.shared_slice_known-in-loop-l-1.given c.loop-l.l)
 
 pub overflow_mul-b : goal.overflow_mul-b
-overflow_mul-b c = omega (arith, low c.before)
+overflow_mul-b c = omega (arith, low (goal.at.overflow_mul-b c).After-next_corner-b)
 
 pub overflow_add-b : goal.overflow_add-b
-overflow_add-b c = omega (arith, low c.before)
+overflow_add-b c = omega (arith, low (goal.at.overflow_add-b c).After-next_corner-b)
 
 pub bounds-m3-b : goal.bounds-m3-b
-bounds-m3-b c = omega (arith, low c.before)
+bounds-m3-b c = omega (arith, low (goal.at.bounds-m3-b c).After-next_corner-b)
 
 pub shape_of-m2 : goal.shape_of-m2
-shape_of-m2 c = let loop = c.before in stand-size loop.requires loop.loop-l.invariant
+shape_of-m2 c = stand-size c.requires c.loop-l.invariant

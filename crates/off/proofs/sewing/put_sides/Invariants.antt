@@ -5,7 +5,7 @@ use Rattle.off.proofs.sewing.SidesPut.{SidesStand}
 use Rattle.off.proofs.sewing.put_sides.Given as goal
 
 abbrev pub invariant-loop-l : goal.invariant-loop-l
-invariant-loop-l l = SidesStand (take l.n l.bytes) l.m3 l.initial.m2 l.j l.m2 l.l
+invariant-loop-l v = SidesStand (take v.n v.bytes) v.m3 v.initial.m2 v.j v.m2 v.l
 
 abbrev pub decreases-loop-l : goal.decreases-loop-l
-decreases-loop-l l = l.n - l.l
+decreases-loop-l v = v.n - v.l

@@ -16,29 +16,25 @@ pub returns-then-not-is_ring : goal.returns-then-not-is_ring
 returns-then-not-is_ring c = no_ring c.requires (sym c.is_ring.ensures ∙ c.if-not-is_ring.true)
 
 pub meet_sides-met-requires : goal.meet_sides-met-requires
-meet_sides-met-requires c = let passed = (goal.at.meet_sides-met-requires c).Else-not-is_ring in ring-seams passed.requires (ring passed)
+meet_sides-met-requires c = ring-seams c.requires (ring (goal.at.meet_sides-met-requires c).Else-not-is_ring)
 
 pub returns-then-met-ne-ACCEPTED : goal.returns-then-met-ne-ACCEPTED
 returns-then-met-ne-ACCEPTED c =
-    let passed = (goal.at.returns-then-met-ne-ACCEPTED c).Else-not-is_ring in
-    ring-refused passed.requires (ring passed) c.meet_sides-met.ensures (omega arith)
+    ring-refused c.requires (ring (goal.at.returns-then-met-ne-ACCEPTED c).Else-not-is_ring) c.meet_sides-met.ensures (omega arith)
 
 pub put_sides-requires : goal.put_sides-requires
 put_sides-requires c =
-    let passed = (goal.at.put_sides-requires c).After-is_ring in
-    sides-room passed.requires (ring passed) c.meet_sides-met.ensures (omega arith)
+    sides-room c.requires (ring (goal.at.put_sides-requires c).Else-not-is_ring) c.meet_sides-met.ensures (omega arith)
 
 pub grown-grown-requires : goal.grown-grown-requires
 grown-grown-requires c =
-    let passed = (goal.at.grown-grown-requires c).After-is_ring in
-    let few = panels-room passed.requires (ring passed) c.meet_sides-met.ensures (omega arith) in
+    let few = panels-room c.requires (ring (goal.at.grown-grown-requires c).Else-not-is_ring) c.meet_sides-met.ensures (omega arith) in
     (omega arith, few)
 
 pub returns : goal.returns
 returns c =
-    let passed = (goal.at.returns c).After-is_ring in
     rw c.grown-grown.ensures
-    (ring-sewn passed.requires (ring passed) c.meet_sides-met.ensures (omega arith) c.put_sides.ensures)
+    (ring-sewn c.requires (ring (goal.at.returns c).Else-not-is_ring) c.meet_sides-met.ensures (omega arith) c.put_sides.ensures)
 
 pub is_ring-requires : goal.is_ring-requires
 is_ring-requires c = ring-bytes c.requires

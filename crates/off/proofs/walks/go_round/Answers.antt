@@ -26,8 +26,7 @@ fill_next-requires c =
 
 pub returns-then-start-eq-SIDE : goal.returns-then-start-eq-SIDE
 returns-then-start-eq-SIDE c =
-    let a = (goal.at.returns-then-start-eq-SIDE c).After-fill_next in
-    round_none (steps a) a.fill_next.ensures c.lowest-start.ensures (omega arith) _ _
+    round_none (steps (goal.at.returns-then-start-eq-SIDE c).After-fill_next) c.fill_next.ensures c.lowest-start.ensures (omega arith) _ _
 
 pub walk-requires : goal.walk-requires
 walk-requires c =
@@ -43,6 +42,5 @@ walk-requires c =
 
 pub returns : goal.returns
 returns c =
-    let a = (goal.at.returns c).After-fill_next in
-    let most = start-inside (steps a) a.fill_next.ensures c.lowest-start.ensures in
-    round_walked (steps a) a.fill_next.ensures c.lowest-start.ensures (omega (arith, most, c.if-start-eq-SIDE.false)) c.walk.ensures refl
+    let most = start-inside (steps (goal.at.returns c).After-fill_next) c.fill_next.ensures c.lowest-start.ensures in
+    round_walked (steps (goal.at.returns c).After-fill_next) c.fill_next.ensures c.lowest-start.ensures (omega (arith, most, c.if-start-eq-SIDE.false)) c.walk.ensures refl

@@ -14,7 +14,7 @@ few : (c : After-column_count-count) → c.column_count-count.result ≤ 96
 few c = rw c.column_count-count.ensures (count_le 96 _)
 
 pub go_round-requires : goal.go_round-requires
-go_round-requires c = let count = (goal.at.go_round-requires c).After-column_count-count in record { panel = count.requires; few = few count }
+go_round-requires c = record { panel = c.requires; few = few (goal.at.go_round-requires c).After-column_count-count }
 
 pub returns-then-not-go_round : goal.returns-then-not-go_round
 returns-then-not-go_round c =
@@ -22,11 +22,10 @@ returns-then-not-go_round c =
 
 pub is_ring-requires : goal.is_ring-requires
 is_ring-requires c =
-    let count = (goal.at.is_ring-requires c).After-slice_known-1 in
-    let x = count.args in
-    let ends = count.requires.ends in
+    let x = c.args in
+    let ends = c.requires.ends in
     corners-low c.go_round.ensures c.if-not-go_round.false
-    (steps_of (ends_by x.tails.now x.heads.now) (column x.m2.now x.j) x.n ends.tail ends.head) (few count) (search rules)
+    (steps_of (ends_by x.tails.now x.heads.now) (column x.m2.now x.j) x.n ends.tail ends.head) (few (goal.at.is_ring-requires c).After-column_count-count) (search rules)
 
 pub returns-then-is_ring : goal.returns-then-is_ring
 returns-then-is_ring c =

@@ -4,7 +4,7 @@ use Rattle.off.proofs.walks.Steps.{Walking}
 use Rattle.off.proofs.walks.walk.Given as goal
 
 abbrev pub invariant-loop-l : goal.invariant-loop-l
-invariant-loop-l l = Walking l.next l.start l.n l.bytes l.corner l.l
+invariant-loop-l v = Walking v.next v.start v.n v.bytes v.corner v.l
 
 abbrev pub decreases-loop-l : goal.decreases-loop-l
-decreases-loop-l l = l.n - l.l
+decreases-loop-l v = v.n - v.l

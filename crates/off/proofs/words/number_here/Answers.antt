@@ -71,13 +71,13 @@ returns c =
     c.number_of-2.ensures ∙ ap number_of (digit-over c.args.s.now loop.next _ _ (omega arith) ∙ loop.invariant.is)
 
 pub overflow_mul-n : goal.overflow_mul-n
-overflow_mul-n c = omega (arith, (near c).small)
+overflow_mul-n c = omega (arith, (near (goal.at.overflow_mul-n c).Else-next-at-ge7).small)
 
 pub overflow_sub-n : goal.overflow_sub-n
-overflow_sub-n c = (near c).from
+overflow_sub-n c = (near (goal.at.overflow_sub-n c).Else-next-at-ge7).from
 
 pub overflow_cast-n : goal.overflow_cast-n
-overflow_cast-n c = omega (arith, (near c).to)
+overflow_cast-n c = omega (arith, (near (goal.at.overflow_cast-n c).Else-next-at-ge7).to)
 
 pub overflow_add-n : goal.overflow_add-n
-overflow_add-n c = omega (arith, (near c).small, (near c).to)
+overflow_add-n c = omega (arith, (near (goal.at.overflow_add-n c).Else-next-at-ge7).small, (near (goal.at.overflow_add-n c).Else-next-at-ge7).to)

@@ -18,7 +18,7 @@ use Rattle.off.proofs.writer.export_good.Goals.{After-take_ends, Else-length-eq0
 
 -- the pattern that was lent
 abbrev lent : After-take_ends → Complex
-lent c = let a = (start c.before.before.before).args in drawn a.c a.m1.now a.m2.now
+lent c = let a = c.args in drawn a.c a.m1.now a.m2.now
 
 near : (c : Else-not-are_near) → let a = c.args in coordinates_near (count_of a.c 0) a.list.now ≡ true
 near c = sym c.are_near.ensures ∙ c.if-not-are_near.false
@@ -31,9 +31,9 @@ abbrev heads : After-take_ends → List ℕ
 heads c = c.Take-ends.new.1.1.1.0
 
 -- what measuring and putting need
-measurable : (c : After-take_ends) → let a = (start c.before.before.before).args in Measurable a.c a.m2.now a.list.now (tails c) (heads c)
+measurable : (c : After-take_ends) → let a = c.args in Measurable a.c a.m2.now a.list.now (tails c) (heads c)
 measurable c =
-    let pre = (start c.before.before.before).requires in
+    let pre = c.requires in
     record {
       four = pre.four;
       near = record { size = pre.size; few = pre.corners; near = near c.before.before.before };
@@ -49,47 +49,42 @@ returns-then-length-eq0 c =
     rw c.no_text-then-length-eq0.ensures (no_plain _ _ _ (near (goal.at.returns-then-length-eq0 c).Else-not-are_near) (sym (plain-taken _ _ _ c.Take-ends.ensures) ∙ none))
 
 -- there is a text
-found : (c : Else-length-eq0) → let ends = c.before.before.before.before.before.before in let a = (start ends.before.before.before).args in
-    plain_by a.c a.m2.now (tails ends) (heads ends) ≡ true
+found : (c : Else-length-eq0) → let a = c.args in
+    plain_by a.c a.m2.now (tails c.before.before.before.before.before.before) (heads c.before.before.before.before.before.before) ≡ true
 found c =
-    let a = (start (within c.before.before.before.before.before.before)).args in
+    let a = c.args in
     measured-some a.c a.m2.now _ _ a.list.now (λ z. c.if-length-eq0.false (c.text_length-length.ensures ∙ z))
 
-measured : (c : Else-length-eq0) → let ends = c.before.before.before.before.before.before in let a = (start ends.before.before.before).args in
-    c.text_length-length.result ≡ length (text_by a.c a.m2.now a.list.now (tails ends) (heads ends))
+measured : (c : Else-length-eq0) → let a = c.args in
+    c.text_length-length.result ≡ length (text_by a.c a.m2.now a.list.now (tails c.before.before.before.before.before.before) (heads c.before.before.before.before.before.before))
 measured c = c.text_length-length.ensures ∙ sym (text-measured _ _ _ _ _ (found c))
 
 -- it is the pattern's
 plain : (c : Else-length-eq0) → is_plain (lent c.before.before.before.before.before.before) ≡ true
 plain c = sym (plain-taken _ _ _ c.Take-ends.ensures) ∙ found c
 
-same : (c : After-take_ends) → let a = (start c.before.before.before).args in
+same : (c : After-take_ends) → let a = c.args in
     text_by a.c a.m2.now a.list.now (tails c) (heads c) ≡ export_text (lent c) a.list.now
-same c = let a = (start c.before.before.before).args in text-taken a.c a.m1.now a.m2.now c.Take-ends.ensures a.list.now
+same c = let a = c.args in text-taken a.c a.m1.now a.m2.now c.Take-ends.ensures a.list.now
 
-long : (c : Else-length-eq0) → let ends = c.before.before.before.before.before.before in
-    c.text_length-length.result ≡ length (export_text (lent ends) (start ends.before.before.before).args.list.now)
+long : (c : Else-length-eq0) → c.text_length-length.result ≡ length (export_text (lent c.before.before.before.before.before.before) c.args.list.now)
 long c = measured c ∙ ap length (same c.before.before.before.before.before.before)
 
 pub returns-then-out-length : goal.returns-then-out-length
 returns-then-out-length c =
-    let test = (goal.at.returns-then-out-length c).Else-length-eq0 in
-    rw c.no_text-then-out-length.ensures (too_long _ _ _ (near (within test.before.before.before.before.before.before)) (plain test) (omega (arith, long test, c.if-out-length.true)))
+    rw c.no_text-then-out-length.ensures (too_long _ _ _ (near (goal.at.returns-then-out-length c).Else-not-are_near) (plain (goal.at.returns-then-out-length c).Else-length-eq0) (omega (arith, long (goal.at.returns-then-out-length c).Else-length-eq0, c.if-out-length.true)))
 
 pub put_text-written-requires : goal.put_text-written-requires
 put_text-written-requires c =
-    let test = (goal.at.put_text-written-requires c).Else-length-eq0 in
     record {
-      measured = measurable test.before.before.before.before.before.before;
-      close = plain-closes _ _ _ _ (found test);
-      room = omega (arith, c.if-out-length.false, measured test);
+      measured = measurable (goal.at.put_text-written-requires c).After-take_ends;
+      close = plain-closes _ _ _ _ (found (goal.at.put_text-written-requires c).Else-length-eq0);
+      room = omega (arith, c.if-out-length.false, measured (goal.at.put_text-written-requires c).Else-length-eq0);
     }
 
 pub returns : goal.returns
 returns c =
-    let test = (goal.at.returns c).Else-length-eq0 in
-    let ends = test.before.before.before.before.before.before in
-    exported _ _ _ (near ends.before.before.before) (plain test) (omega (arith, long test, c.if-out-length.false)) (rw (same ends) at c.put_text-written.ensures)
+    exported _ _ _ (near (goal.at.returns c).Else-not-are_near) (plain (goal.at.returns c).Else-length-eq0) (omega (arith, long (goal.at.returns c).Else-length-eq0, c.if-out-length.false)) (rw (same (goal.at.returns c).After-take_ends) at c.put_text-written.ensures)
 
 pub text_length-length-requires : goal.text_length-length-requires
-text_length-length-requires c = let ends = c.before.before.before.before in measurable ends
+text_length-length-requires c = measurable (goal.at.text_length-length-requires c).After-take_ends

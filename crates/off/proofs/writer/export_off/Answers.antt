@@ -3,45 +3,38 @@ use mathlib.Core.Path.{◌≡◌, sym, ◌∙◌}
 use lib.ListN.{length}
 use borrow.Author.Rules.{rules}
 use Rattle.rules.specs.Refusals.{accepted}
-use Rattle.rules.specs.Complex.{Pattern}
 use Rattle.rules.specs.Lending.{as_lent}
 use Rattle.rules.specs.Good.{Held}
 use Rattle.good.specs.Tested.{tested}
 use Rattle.good.proofs.Passing.{held}
 use Rattle.off.proofs.writer.ExportAnswers.{wrong_list, wrong_pattern, good-pattern}
 use Rattle.off.proofs.writer.export_off.Goals as goal
-use Rattle.off.proofs.writer.export_off.Goals.{Else-refusal-ne-ACCEPTED, Start}
-
--- the pattern that was lent
-abbrev entry : Start → Pattern
-entry s = let a = s.args in as_lent a.c a.m1 a.m2 a.m3
+use Rattle.off.proofs.writer.export_off.Goals.{Else-refusal-ne-ACCEPTED}
 
 -- it passed its test
-passed : (c : Else-refusal-ne-ACCEPTED) → tested (entry c.before.before.before.before) ≡ accepted
+passed : (c : Else-refusal-ne-ACCEPTED) → tested (as_lent c.args.c c.args.m1.now c.args.m2.now c.args.m3.now) ≡ accepted
 passed c = sym c.refusal_of_pattern-refusal.ensures ∙ c.if-refusal-ne-ACCEPTED.false
 
-good : (c : Else-refusal-ne-ACCEPTED) → Held (entry c.before.before.before.before)
-good c = let four : length c.args.c.n ≡ 4 = search rules in held (entry c.before.before.before.before) four (passed c)
+good : (c : Else-refusal-ne-ACCEPTED) → Held (as_lent c.args.c c.args.m1.now c.args.m2.now c.args.m3.now)
+good c = let four : length c.args.c.n ≡ 4 = search rules in held (as_lent c.args.c c.args.m1.now c.args.m2.now c.args.m3.now) four (passed c)
 
 pub export_good-requires : goal.export_good-requires
 export_good-requires c =
-    let test = (goal.at.export_good-requires c).Else-refusal-ne-ACCEPTED in
-    let h = good test in
+    let h = good (goal.at.export_good-requires c).Else-refusal-ne-ACCEPTED in
     record {
       four = h.sized.four;
       corners = h.good.few 0;
       seams = record { size = h.sized.size1; few = h.good.few 1 };
       panels = record { size = h.sized.size2; few = h.good.few 2 };
-      size = test.if-list-ne-COORDINATES.false;
+      size = c.if-list-ne-COORDINATES.false;
     }
 
 pub returns : goal.returns
 returns c =
-    let test = (goal.at.returns c).Else-refusal-ne-ACCEPTED in
-    c.export_good.ensures ∙ good-pattern _ _ _ test.if-list-ne-COORDINATES.false (passed test)
+    c.export_good.ensures ∙ good-pattern _ _ _ c.if-list-ne-COORDINATES.false (passed (goal.at.returns c).Else-refusal-ne-ACCEPTED)
 
 pub returns-then-list-ne-COORDINATES : goal.returns-then-list-ne-COORDINATES
 returns-then-list-ne-COORDINATES c = rw c.no_text.ensures (wrong_list _ _ _ c.if-list-ne-COORDINATES.true)
 
 pub returns-then-refusal-ne-ACCEPTED : goal.returns-then-refusal-ne-ACCEPTED
-returns-then-refusal-ne-ACCEPTED c = let test = c.before in let refusal = test.before in rw c.no_text-then-refusal-ne-ACCEPTED.ensures (wrong_pattern _ _ _ refusal.if-list-ne-COORDINATES.false refusal.refusal_of_pattern-refusal.ensures test.if-refusal-ne-ACCEPTED.true)
+returns-then-refusal-ne-ACCEPTED c = rw c.no_text-then-refusal-ne-ACCEPTED.ensures (wrong_pattern _ _ _ c.if-list-ne-COORDINATES.false c.refusal_of_pattern-refusal.ensures c.if-refusal-ne-ACCEPTED.true)

@@ -11,19 +11,7 @@ use Rattle.off.proofs.lengths.LineLengths.{corners-most, head-most}
 use Rattle.off.proofs.walks.Measuring.{lines-most}
 use Rattle.off.proofs.places.TextParts.{some_block, not-sewn, not_alone, not_closing, all_plain, text-length-is, no_text-measured, text-measured}
 use Rattle.off.proofs.writer.text_length.Goals as goal
-use Rattle.off.proofs.writer.text_length.Goals.{After-corners_length, Else-n-ne0, Else-not-all_alone, Else-not-all_sewn, Else-not-rings, Start}
-
-abbrev alone : Else-not-rings → Else-not-all_alone
-alone c = c.before.before.before
-
-abbrev sewn : Else-not-rings → Else-not-all_sewn
-sewn c = (alone c).before.before
-
-abbrev flat : Else-not-rings → Else-n-ne0
-flat c = (sewn c).before.before
-
-abbrev start : Else-not-rings → Start
-start c = (flat c).before.before.before.before
+use Rattle.off.proofs.writer.text_length.Goals.{After-corners_length, Else-not-rings}
 
 pub returns-then-n-ne0 : goal.returns-then-n-ne0
 returns-then-n-ne0 c = no_text-measured _ _ _ _ _ (some_block _ _ _ _ c.if-n-ne0.true)
@@ -39,21 +27,21 @@ returns-then-not-rings c =
     no_text-measured _ _ _ _ _ (not_closing _ _ _ _ (sym c.measure_rings-rings.ensures.closes ∙ not-true _ c.if-not-rings.true))
 
 -- all tests are passed
-plain : (c : Else-not-rings) → let a = (start c).args in plain_by a.c a.m2.now a.tails.now a.heads.now ≡ true
+plain : (c : Else-not-rings) → let a = (c.before.before.before.before.before.before.before.before.before.before.before).args in plain_by a.c a.m2.now a.tails.now a.heads.now ≡ true
 plain c =
-    let a = (start c).args in
-    all_plain a.c a.m2.now a.tails.now a.heads.now (flat c).if-n-ne0.false
-    (sym (sewn c).all_sewn.ensures ∙ not-false _ (sewn c).if-not-all_sewn.false-raw)
-    (sym (alone c).all_alone.ensures ∙ not-false _ (alone c).if-not-all_alone.false-raw)
+    let a = (c.before.before.before.before.before.before.before.before.before.before.before).args in
+    all_plain a.c a.m2.now a.tails.now a.heads.now (c.before.before.before.before.before.before.before).if-n-ne0.false
+    (sym c.all_sewn.ensures ∙ not-false _ (c.before.before.before.before.before).if-not-all_sewn.false-raw)
+    (sym c.all_alone.ensures ∙ not-false _ (c.before.before.before).if-not-all_alone.false-raw)
     (sym c.measure_rings-rings.ensures.closes ∙ not-false _ c.if-not-rings.false)
 
 -- how long the three parts are together
-parts : (c : After-corners_length) → let test = c.before.before in let a = (start test).args in
+parts : (c : After-corners_length) → let test = c.before.before in let a = (test.before.before.before.before.before.before.before.before.before.before.before).args in
     c.head_length.result + c.corners_length.result + test.measure_rings-rings.result.length
     ≡ length (text_by a.c a.m2.now a.list.now a.tails.now a.heads.now)
 parts c =
     let test = c.before.before in
-    let a = (start test).args in
+    let a = (test.before.before.before.before.before.before.before.before.before.before.before).args in
     omega (
       arith,
       text-length-is a.c a.m2.now a.tails.now a.heads.now a.list.now,
@@ -66,8 +54,8 @@ small : (c : After-corners_length) → let test = c.before.before in
     c.head_length.result + c.corners_length.result + test.measure_rings-rings.result.length ≤ 77116
 small c =
     let test = c.before.before in
-    let a = (start test).args in
-    let pre = (start test).requires in
+    let a = (test.before.before.before.before.before.before.before.before.before.before.before).args in
+    let pre = (test.before.before.before.before.before.before.before.before.before.before.before).requires in
     omega (
       arith,
       parts c,
@@ -80,10 +68,10 @@ small c =
     )
 
 pub returns : goal.returns
-returns c = let test = (goal.at.returns c).Else-not-rings in parts (goal.at.returns c).After-corners_length ∙ text-measured _ _ _ _ _ (plain test)
+returns c = parts (goal.at.returns c).After-corners_length ∙ text-measured _ _ _ _ _ (plain (goal.at.returns c).Else-not-rings)
 
 pub overflow_add-result : goal.overflow_add-result
-overflow_add-result c = omega (arith, small c)
+overflow_add-result c = omega (arith, small (goal.at.overflow_add-result c).After-corners_length)
 
 pub overflow_add-result-2 : goal.overflow_add-result-2
-overflow_add-result-2 c = omega (arith, small c.before)
+overflow_add-result-2 c = omega (arith, small (goal.at.overflow_add-result-2 c).After-corners_length)
