@@ -7,7 +7,10 @@ use Rattle.mesh.proofs.cells.read_cell.Goals as goal
 pub make-made-requires : goal.make-made-requires
 make-made-requires c =
     let a = c.args in
-    (c.requires.held, cell-form a.s.now a.k a.at (as_lent c.args.c c.args.m1.now c.args.m2.now c.args.m3.now) c.requires (sym c.make_form.ensures ∙ c.in-Decoded.is))
+    record {
+      held = c.requires.held;
+      make_form = cell-form a.s.now a.k a.at (as_lent a.c a.m1.now a.m2.now a.m3.now) c.requires (sym c.make_form.ensures ∙ c.in-Decoded.is);
+    }
 
 pub returns-in-Bad : goal.returns-in-Bad
 returns-in-Bad c =
