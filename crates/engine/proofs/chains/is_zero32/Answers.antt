@@ -4,12 +4,8 @@ use mir.Syntax.{w32}
 use mir.Facts.{sfits_lit}
 use Rattle.maths.specs.Tests.{is_zero}
 use Rattle.maths.proofs.Sizes.{bits_eq}
-use Rattle.engine.proofs.chains.is_zero32.Statement.{statement}
-use Rattle.engine.proofs.chains.is_zero32.Tie as tie
+use Rattle.engine.proofs.chains.is_zero32.Goals as goal
 
-returns : tie.Need-returns
+pub returns : goal.returns
 unfolding is_zero
 returns c = bits_eq w32 {y = pos 0} c.ranges.z (sfits_lit tt)
-
-pub is_zero32_spec : {M : Type 1} → statement M
-is_zero32_spec = tie.close (tie.spec returns)
