@@ -3,7 +3,14 @@
 use native.Mathlib.Omega.{arith}
 use Rattle.maths.proofs.Buffers.{two_pieces}
 use Rattle.rules.specs.Printed.{seam_line}
+use Rattle.listing.proofs.Faces.{last_byte}
 use Rattle.listing.proofs.lines.line_seam.Goals as goal
+
+pub overflow_cast-tail : goal.overflow_cast-tail
+overflow_cast-tail c = last_byte _ c.column_last-tail.ensures
+
+pub overflow_cast-head : goal.overflow_cast-head
+overflow_cast-head c = last_byte _ c.column_last-head.ensures
 
 pub returns : goal.returns
 unfolding seam_line

@@ -6,14 +6,13 @@ use Rattle.listing.proofs.lines.put_place.Goals as goal
 
 pub overflow_cast-place : goal.overflow_cast-place
 overflow_cast-place c =
-    let room = c.requires.room in
-    let small = c.requires.small in
+    let small = c.requires.place_small in
     omega (arith, small c.if-refusal.true)
 
 pub put_labelled-requires : goal.put_labelled-requires
 put_labelled-requires c =
-    let room = c.requires.room in
-    let small = c.requires.small in
+    let room = c.requires.at_in_bounds in
+    let small = c.requires.place_small in
     record { small = omega (arith, small c.if-refusal.true); room = omega (arith, room) }
 
 pub returns-then-refusal : goal.returns-then-refusal
