@@ -1,5 +1,6 @@
 // Putting bytes into a lent buffer.
 #![tactic(auto)]
+
 ghost use Rattle.std.specs.Prelude.{[], ◌∷◌};
 ghost use Rattle.maths.specs.Buffers.{Fits, Put};
 

@@ -1,6 +1,7 @@
 // The public calls: reading and writing a mesh, which stand in `mesh`; here one operator and a script; a module each for the Euler number, the
 // boundary of a chain and carrying one.
 #![tactic(auto)]
+
 ghost use Rattle.std.specs.Prelude.{◌≡◌};
 ghost use Rattle.rules.specs.Calls.{apply_call, run_call};
 ghost use Rattle.rules.specs.Lending.{at_entry, left};

@@ -1,5 +1,6 @@
 // Whether a lent pattern is good.
 #![tactic(auto)]
+
 ghost use Rattle.std.specs.Prelude.{◌≡◌};
 ghost use Rattle.good.specs.Tested.{tested};
 ghost use Rattle.rules.specs.Complex.{counts_of, empty};

@@ -1,5 +1,6 @@
 // Reading and writing a mesh.
 #![tactic(auto)]
+
 mod cells;
 pub mod part;
 pub mod reader;

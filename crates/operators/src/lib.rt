@@ -1,5 +1,6 @@
 // The five operators on a good pattern.
 #![tactic(auto)]
+
 mod append;
 mod chosen;
 mod divider;

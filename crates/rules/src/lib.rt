@@ -1,5 +1,6 @@
 // The types that the definitions of specs/ and the code share.
 #![tactic(auto)]
+
 pub mod amounts;
 pub mod answers;
 pub mod counts;

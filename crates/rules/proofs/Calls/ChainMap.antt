@@ -19,7 +19,7 @@ use Rattle.rules.specs.Complex.{Pattern, Complex, Chain, complex, stored}
 use Rattle.rules.specs.Good.{Good, Held}
 use Rattle.rules.specs.Edits.{Step, layers, boundary}
 use Rattle.rules.specs.Operators.{edited}
-use Rattle.rules.specs.Form.{within, faces_of}
+use Rattle.rules.specs.Form.{faces_of}
 use Rattle.rules.specs.Chains.{is_chain, boundary_limit, carry_limit}
 use Rattle.rules.specs.Calls.{handed_back, operator_left, apply_call, Given, given, coefficients, boundary_call, carry_call}
 use Rattle.rules.proofs.Layers.Frame.{Within}

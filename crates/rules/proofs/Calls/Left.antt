@@ -22,7 +22,7 @@ use Rattle.rules.specs.Good.{Held}
 use Rattle.rules.specs.Operators.{amount_of, step, after_step}
 use Rattle.rules.specs.Form.{operator_at, lone_operator, faces_of, script_form, fault_number, fault_place}
 use Rattle.rules.specs.Script.{run_script, moved_by, same_base}
-use Rattle.rules.specs.Calls.{Lent, lent, sized, sized_script, applied, applied_left, operator_left, script_left, euler_call, apply_call, run_call}
+use Rattle.rules.specs.Calls.{Lent, lent, sized_script, applied, applied_left, operator_left, script_left, euler_call, apply_call, run_call}
 use Rattle.rules.proofs.Branches.Branches.{cond_each, operator_each, step_each}
 use Rattle.rules.proofs.Branches.Numbers.{Refusal, step-numbered}
 use Rattle.rules.proofs.Bytes.Fields.{bad_operator, after_operator_lem}

@@ -1,9 +1,7 @@
 -- `engine::boundary::add_times32` meets its contract: in turn i sum i is still the old one, and leaves room for a term.
 use mathlib.Core.Path.{refl, ◌∙◌}
-use Prim.Native.Nat.{◌-◌}
 use native.Mathlib.Omega.{arith}
 use mir.Syntax.{w8, w32}
-use mir.Val.{to_z}
 use mir.Facts.{to_z-of_z}
 use Rattle.maths.proofs.Sizes.{back}
 use Rattle.grid.proofs.Adding.{adding_begin, adding_more, adding_end}

@@ -1,5 +1,4 @@
 -- `engine::boundary::clear32` meets its contract: after i turns the first i are 0.
-use Prim.Native.Nat.{◌-◌}
 use native.Mathlib.Omega.{arith}
 use Rattle.engine.proofs.Products.{clearing_begin, clearing_more, clearing_end}
 use Rattle.engine.proofs.boundary.clear32.Goals as goal

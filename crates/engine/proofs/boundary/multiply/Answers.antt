@@ -1,6 +1,5 @@
 -- `engine::boundary::multiply` meets its contract: after j turns the sums are those of the first j columns.
 use mathlib.Core.Path.{◌≡◌, sym, ap, ◌∙◌}
-use Prim.Native.Nat.{◌-◌}
 use native.Mathlib.Omega.{arith}
 use mir.Syntax.{w32}
 use Rattle.maths.proofs.Sizes.{back}

@@ -1,5 +1,4 @@
 -- `engine::chains::copy_chain` meets its contract: before the place i all is copied.
-use Prim.Native.Nat.{◌-◌}
 use native.Mathlib.Omega.{arith}
 use mir.Syntax.{w32}
 use Rattle.maths.proofs.Sizes.{back}

@@ -1,6 +1,5 @@
 -- `engine::chains::is_chain` meets its contract: every coefficient so far passed, and the first that does not ends the loop.
 use mathlib.Core.Path.{sym, ◌∙◌}
-use Prim.Native.Nat.{◌-◌}
 use native.Mathlib.Omega.{arith}
 use mir.Syntax.{w32}
 use Rattle.maths.proofs.Sizes.{back}

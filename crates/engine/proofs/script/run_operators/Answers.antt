@@ -1,7 +1,6 @@
 -- `engine::script::run_operators` turns as `repeat` does: what is left to run, from the pattern and place that it holds, is always the whole.
 use mathlib.Core.Path.{sym, ◌∙◌}
 use native.Mathlib.Omega.{arith}
-use Rattle.rules.specs.Complex.{pattern, Sized}
 use Rattle.rules.specs.Lending.{as_lent}
 use Rattle.engine.proofs.Runs.{run_starts, run_more, run_stops, run_ends}
 use Rattle.engine.proofs.script.run_operators.Goals as goal

@@ -1,11 +1,9 @@
 -- `entries_form` turns as `repeat` does: what is left to read, from where it stands, is always the whole list.
 use mathlib.Core.Path.{refl, ◌∙◌}
 use native.Mathlib.Omega.{arith}
-use Rattle.maths.specs.Repeat.{repeat}
 use Rattle.maths.proofs.Repeat.{repeat-ended, turned, stopped}
 use Rattle.rules.specs.Form.{entries_at}
 use Rattle.form.proofs.Bytes.{is}
-use Rattle.form.proofs.lists.entries_form.Invariants.{entries_from}
 use Rattle.form.proofs.lists.entries_form.Goals as goal
 
 pub loop-left-init : goal.loop-left-init

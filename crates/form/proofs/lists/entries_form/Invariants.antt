@@ -6,7 +6,6 @@ use Prim.Native.Nat.{ℕ}
 use Rattle.maths.specs.Repeat.{repeat}
 use Rattle.rules.specs.Form.{after_entry, entry_at, entries_at}
 use Rattle.rules.specs.declared.form.Field.{Field}
-use Rattle.form.proofs.Bytes.{is}
 use Rattle.form.proofs.lists.entries_form.Given as goal
 
 -- n entries from `at`, the first at least low, as `entries_at` reads them from 0

@@ -1,7 +1,6 @@
 -- `good::columns::faces` meets its contract: every column passed so far has a face, and the first that has none ends the loop.
 use mathlib.Core.Path.{sym, ap, ◌∙◌}
 use mathlib.Core.Bool.{not}
-use Prim.Native.Nat.{◌-◌}
 use native.Mathlib.Omega.{arith}
 use Rattle.grid.proofs.Joined.{passed_none, passed_more, passed_not, passed_all}
 use Rattle.good.proofs.Places.{zero-column}

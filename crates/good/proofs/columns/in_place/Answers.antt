@@ -1,8 +1,6 @@
 -- `good::columns::in_place` meets its contract: the columns in use are tested one by one, and behind them every place has to be 0.
 use mathlib.Core.Path.{sym, ◌∙◌}
-use Prim.Native.Nat.{◌-◌}
 use native.Mathlib.Omega.{arith}
-use Rattle.good.specs.Columns.{column_in_place}
 use Rattle.grid.proofs.Joined.{passed_none, passed_more, passed_not, passed_all}
 use Rattle.good.proofs.Places.{in_place-not, in_place-rest}
 use Rattle.good.proofs.columns.in_place.Goals as goal

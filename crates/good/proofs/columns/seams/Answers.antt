@@ -1,8 +1,6 @@
 -- `good::columns::seams` meets its contract: every column passed so far has one of each, and the first that has not ends the loop.
 use mathlib.Core.Path.{sym, ◌∙◌}
-use Prim.Native.Nat.{◌-◌}
 use native.Mathlib.Omega.{arith}
-use Rattle.rules.specs.Good.{one_each}
 use Rattle.grid.proofs.Joined.{passed_none, passed_more, passed_not, passed_all}
 use Rattle.good.proofs.Places.{one_each_column}
 use Rattle.good.proofs.columns.seams.Goals as goal

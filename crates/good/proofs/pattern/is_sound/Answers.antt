@@ -7,11 +7,14 @@ use Rattle.good.proofs.pattern.is_sound.Goals as goal
 
 pub is_formed-requires : goal.is_formed-requires
 is_formed-requires c =
-    let t = three c.if-in_place.true in record { stored = c.requires; all_placed = record {
+    let t = three c.if-in_place.true in record {
+      stored = c.requires;
+      all_placed = record {
         first = in_place-at _ _ _ (sym c.in_place.ensures ∙ t.0);
         second = in_place-at _ _ _ (sym c.in_place-2.ensures ∙ t.1);
         third = in_place-at _ _ _ (sym c.in_place-3.ensures ∙ t.2);
-      } }
+      };
+    }
 
 pub returns-then-in_place : goal.returns-then-in_place
 unfolding sound all_in_place

@@ -1,8 +1,6 @@
 -- `good::products::product_zero` meets its contract: every column passed so far closes, and the first that does not ends the loop.
 use mathlib.Core.Path.{◌∙◌}
-use Prim.Native.Nat.{◌-◌}
 use native.Mathlib.Omega.{arith}
-use Rattle.rules.specs.Good.{closes}
 use Rattle.grid.proofs.Joined.{passed_none, passed_more, passed_not, passed_all}
 use Rattle.good.proofs.Places.{column-summands, column-closes}
 use Rattle.good.proofs.products.product_zero.Goals as goal

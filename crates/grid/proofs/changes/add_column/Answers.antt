@@ -1,5 +1,4 @@
 -- `grid::changes::add_column` meets its contract: column b is added to the rows below i of column a, and row i is still the old one.
-use Prim.Native.Nat.{◌-◌}
 use native.Mathlib.Omega.{arith}
 use mir.Syntax.{w8}
 use Rattle.maths.proofs.Sizes.{plus_fits, plus-is}

@@ -1,6 +1,6 @@
 -- `grid::changes::clear_from` meets its contract: before the place p the matrix is cleared from column c on.
 use mathlib.Core.Path.{sym}
-use Prim.Native.Nat.{◌-◌, ◌/◌}
+use Prim.Native.Nat.{◌/◌}
 use native.Mathlib.Omega.{arith}
 use lib.IntN.{pos}
 use borrow.Author.Tests.{lt-ltb, le-ltb}

@@ -1,5 +1,4 @@
 -- `grid::changes::copy_all` meets its contract: before the place p all is copied.
-use Prim.Native.Nat.{◌-◌}
 use native.Mathlib.Omega.{arith}
 use mir.Syntax.{w8}
 use Rattle.maths.proofs.Sizes.{back}

@@ -1,12 +1,10 @@
 -- `grid::changes::copy_row` meets its contract: row b is copied before the place q, and row a is still to be read at p.
 use mathlib.Core.Path.{◌∙◌}
-use Prim.Native.Nat.{◌-◌}
 use native.Mathlib.Omega.{arith}
 use mir.Syntax.{w8}
 use Rattle.maths.proofs.Sizes.{back}
 use Rattle.grid.specs.Grid.{over, copied_row}
 use Rattle.grid.proofs.Walks.{across_begin, across_old, across_store, across_end}
-use Rattle.grid.proofs.changes.copy_row.Invariants.{Copied}
 use Rattle.grid.proofs.changes.copy_row.Goals as goal
 
 pub loop-q-init : goal.loop-q-init

@@ -1,5 +1,4 @@
 -- `grid::changes::negate_column` meets its contract: the rows below i of column c are negated.
-use Prim.Native.Nat.{◌-◌}
 use native.Mathlib.Omega.{arith}
 use mir.Syntax.{w8}
 use Rattle.maths.proofs.Sizes.{neg_fits, neg_is}

@@ -1,5 +1,4 @@
 -- `grid::changes::negate_row` meets its contract: row r is negated before the place p.
-use Prim.Native.Nat.{◌-◌}
 use native.Mathlib.Omega.{arith}
 use mir.Syntax.{w8}
 use Rattle.maths.proofs.Sizes.{neg_fits, neg_is}

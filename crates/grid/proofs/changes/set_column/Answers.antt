@@ -1,5 +1,4 @@
 -- `grid::changes::set_column` meets its contract: the rows below i of column c are those of v.
-use Prim.Native.Nat.{◌-◌}
 use native.Mathlib.Omega.{arith}
 use mir.Syntax.{w8}
 use Rattle.maths.proofs.Sizes.{back}

@@ -1,6 +1,6 @@
 -- `grid::removals::remove_column` meets its contract: before the place p the columns from c on are the next ones, and past the last is nothing.
 use mathlib.Core.Path.{sym, ap, ◌∙◌}
-use Prim.Native.Nat.{suc, ◌-◌, ◌/◌, ◌%◌}
+use Prim.Native.Nat.{suc, ◌/◌, ◌%◌}
 use native.Mathlib.Omega.{arith}
 use mir.Syntax.{w8}
 use borrow.Author.Tests.{lt-ltb, le-ltb}

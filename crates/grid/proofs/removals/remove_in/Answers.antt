@@ -1,19 +1,17 @@
 -- `grid::removals::remove_in` meets its contract: in column c the rows from r up to i are the next ones, and past the last is nothing.
 use mathlib.Core.Path.{◌≡◌, sym, ap, ◌∙◌}
-use Prim.Native.Nat.{suc, ◌-◌}
+use Prim.Native.Nat.{suc}
 use native.Mathlib.Omega.{arith}
 use lib.IntN.{pos}
 use lib.ListN.{length-set}
 use mir.Syntax.{w8}
 use Rattle.maths.specs.Tables.{entries}
-use Rattle.maths.specs.Sums.{up}
 use Rattle.maths.proofs.Sizes.{back}
 use Rattle.maths.proofs.Sums.{up_lt, up_ge, up-past}
 use Rattle.maths.proofs.Sweep.{rest-place}
 use Rattle.maths.proofs.Tables.{entries-out}
 use Rattle.grid.specs.Grid.{over, removed_in}
 use Rattle.grid.proofs.Walks.{down_from, down_store, down_end}
-use Rattle.grid.proofs.removals.remove_in.Invariants.{Closing}
 use Rattle.grid.proofs.removals.remove_in.Goals as goal
 
 pub loop-i-init : goal.loop-i-init

@@ -1,10 +1,8 @@
 -- `grid::removals::remove_row` meets its contract: row r is removed from the columns below j, and those from j on are still the old ones.
 use mathlib.Core.Path.{sym, ◌∙◌}
-use Prim.Native.Nat.{◌-◌}
 use native.Mathlib.Omega.{arith}
 use lib.Dec.{eqb}
 use borrow.Author.Tests.{eqb-true, eqb-false}
-use Rattle.maths.specs.Tables.{entries}
 use Rattle.maths.specs.Sums.{up}
 use Rattle.maths.proofs.Sweep.{turn, finish_all}
 use Rattle.maths.proofs.Tables.{in_or_out, entries-out}

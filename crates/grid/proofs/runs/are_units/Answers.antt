@@ -1,8 +1,6 @@
 -- `grid::runs::are_units` meets its contract: after i turns `ok` is the test of the first i bytes.
-use Prim.Native.Nat.{◌-◌}
 use native.Mathlib.Omega.{arith}
 use mir.Syntax.{w8}
-use Rattle.maths.specs.Tests.{is_unit}
 use Rattle.maths.proofs.Sizes.{back}
 use Rattle.grid.proofs.Joined.{joined_none, joined_more, joined_all}
 use Rattle.grid.proofs.runs.are_units.Goals as goal

@@ -1,12 +1,9 @@
 -- `grid::runs::times_of` meets its contract: after i turns `found` is the count of the first i bytes, so it is at most i.
 use mathlib.Core.Path.{◌≡◌, sym}
-use Prim.Native.Nat.{◌-◌}
 use native.Mathlib.Omega.{arith}
 use mir.Syntax.{w8}
-use mir.Val.{to_z}
 use mir.Facts.{to_z-of_z}
 use borrow.Author.Rules.{rules}
-use Rattle.maths.specs.Tests.{count}
 use Rattle.maths.proofs.Tests.{count_none}
 use Rattle.maths.proofs.Sizes.{back}
 use Rattle.grid.specs.Grid.{run}

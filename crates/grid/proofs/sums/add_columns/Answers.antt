@@ -1,6 +1,5 @@
 -- `grid::sums::add_columns` meets its contract: after j turns the sums are those of the first j columns, so they stay small.
 use mathlib.Core.Path.{sym, ◌∙◌}
-use Prim.Native.Nat.{◌-◌}
 use native.Mathlib.Omega.{arith}
 use mir.Syntax.{w8}
 use Rattle.maths.proofs.Sizes.{back}

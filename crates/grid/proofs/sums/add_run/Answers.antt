@@ -1,5 +1,4 @@
 -- `grid::sums::add_run` meets its contract: in turn i sum i is still the old one, and leaves room for an entry in a byte.
-use Prim.Native.Nat.{◌-◌}
 use native.Mathlib.Omega.{arith}
 use Rattle.grid.proofs.Adding.{adding_begin, adding_more, adding_end, sum_fits, sum_is}
 use Rattle.grid.proofs.sums.add_run.Goals as goal

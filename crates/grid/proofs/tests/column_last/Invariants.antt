@@ -1,5 +1,4 @@
 -- `grid::tests::column_last` meets its contract: the last entry of column c that is z is among the rows below i.
-use Prim.Native.Nat.{◌-◌}
 use Rattle.maths.specs.Tests.{eq_z}
 use Rattle.maths.specs.Tables.{entries}
 use Rattle.grid.proofs.Readings.{Sought}

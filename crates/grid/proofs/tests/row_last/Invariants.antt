@@ -1,6 +1,5 @@
 -- `grid::tests::row_last` meets its contract: the last of the n entries of row r that is not 0 is before the place p.
 use mathlib.Core.Bool.{not}
-use Prim.Native.Nat.{◌-◌}
 use Rattle.maths.specs.Tests.{is_zero}
 use Rattle.maths.specs.Tables.{entries}
 use Rattle.grid.proofs.Readings.{Crossed, Sought}

@@ -1,10 +1,9 @@
 -- `grid::tests::row_zero` meets its contract: the entries of row r before the place p are 0.
 use mathlib.Core.Path.{◌≡◌, sym, ap, ◌∙◌}
-use mathlib.Core.Bool.{true}
-use Prim.Native.Nat.{◌+◌, ◌-◌, ◌/◌}
+use Prim.Native.Nat.{◌+◌, ◌/◌}
 use native.Mathlib.Omega.{arith}
 use mir.Syntax.{w8}
-use Rattle.maths.specs.Tests.{is_zero, all}
+use Rattle.maths.specs.Tests.{is_zero}
 use Rattle.maths.specs.Tables.{entries}
 use Rattle.maths.proofs.Sizes.{back}
 use Rattle.maths.proofs.Tests.{all_none, all_more, all-not}

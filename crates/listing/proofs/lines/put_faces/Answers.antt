@@ -1,5 +1,4 @@
 -- `listing::lines::put_faces` meets its contract: the faces below i are put, each in at most four bytes.
-use Prim.Native.Nat.{◌-◌}
 use native.Mathlib.Omega.{arith}
 use Rattle.maths.proofs.Sizes.{entry_read}
 use Rattle.maths.proofs.Buffers.{pieces_none, pieces_more, pieces_all}

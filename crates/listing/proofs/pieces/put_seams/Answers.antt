@@ -1,5 +1,4 @@
 -- `listing::pieces::put_seams` meets its contract: the lines of the seams below j are put, each in at most 32 bytes.
-use Prim.Native.Nat.{◌-◌}
 use native.Mathlib.Omega.{arith}
 use Rattle.listing.proofs.Columns.{begun_none, begun_room, begun_more, begun_all}
 use Rattle.listing.proofs.pieces.put_seams.Goals as goal

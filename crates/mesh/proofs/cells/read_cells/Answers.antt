@@ -1,8 +1,7 @@
 -- `mesh::cells::read_cells` turns as `repeat` does: what is left to read, from the pattern and place that it holds, is always the whole.
 use mathlib.Core.Path.{refl, sym, ◌∙◌}
 use native.Mathlib.Omega.{arith}
-use Rattle.rules.specs.Complex.{complex, pattern, Sized}
-use Rattle.rules.specs.Mesh.{Place}
+use Rattle.rules.specs.Complex.{complex}
 use Rattle.rules.specs.Lending.{as_lent}
 use Rattle.mesh.proofs.Parts.{cells_more, cells_stop, cells_end}
 use Rattle.mesh.proofs.cells.read_cells.Goals as goal

@@ -1,5 +1,4 @@
 -- `mesh::writer::put_pairs` meets its contract: the faces below i are put.
-use Prim.Native.Nat.{◌-◌}
 use native.Mathlib.Omega.{arith}
 use Rattle.maths.specs.Tables.{column}
 use Rattle.maths.proofs.Sizes.{entry_read}

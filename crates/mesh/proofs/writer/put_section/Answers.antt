@@ -1,7 +1,5 @@
 -- `mesh::writer::put_section` meets its contract: the is.before.before.before put, and then the cells below j.
-use Prim.Native.Nat.{◌-◌}
 use native.Mathlib.Omega.{arith}
-use Rattle.maths.specs.Tables.{column}
 use Rattle.mesh.specs.Writing.{cell_texts}
 use Rattle.maths.proofs.Buffers.{two_pieces, pieces_none, pieces_fit, pieces_more, pieces_all}
 use Rattle.mesh.proofs.writer.put_section.Goals as goal

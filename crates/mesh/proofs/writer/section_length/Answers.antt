@@ -1,6 +1,6 @@
 -- `mesh::writer::section_length` meets its contract: the sum is how long the count and the cells below j are.
 use mathlib.Core.Path.{◌≡◌}
-use Prim.Native.Nat.{◌+◌, ◌-◌}
+use Prim.Native.Nat.{◌+◌}
 use native.Mathlib.Omega.{arith}
 use Rattle.mesh.proofs.CellTexts.{cells_none, cell_texts_more, cells_most}
 use Rattle.mesh.proofs.writer.section_length.Goals as goal

@@ -1,9 +1,8 @@
 -- `operators::chosen::faces_below` meets its contract: a seam lists none, and of a list all numbers passed are below n.
 use mathlib.Core.Path.{◌∙◌}
-use Prim.Native.Nat.{◌+◌, ◌-◌, ◌<◌}
+use Prim.Native.Nat.{◌+◌, ◌<◌}
 use native.Mathlib.Omega.{arith}
 use borrow.Author.Tests.{lt-ltb, le-ltb}
-use lib.Dec.{ltb}
 use lib.ListN.{length, get_or}
 use Rattle.grid.proofs.Joined.{passed_none, passed_more, passed_not, passed_all}
 use Rattle.operators.proofs.chosen.Listing.{none-listed, all_listed}

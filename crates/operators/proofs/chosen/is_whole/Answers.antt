@@ -1,10 +1,8 @@
 -- `operators::chosen::is_whole` meets its contract: after i turns `same` is the test of the first i entries.
 use mathlib.Core.Path.{ap₂, ◌∙◌}
-use Prim.Native.Nat.{◌-◌}
 use native.Mathlib.Omega.{arith}
 use mir.Syntax.{w8}
 use Rattle.maths.specs.Tests.{eq_z}
-use Rattle.maths.specs.Tables.{column}
 use Rattle.maths.proofs.Sizes.{back}
 use Rattle.grid.proofs.Joined.{joined_none, joined_more, joined_all}
 use Rattle.operators.proofs.chosen.Parts.{column_entry}

@@ -1,7 +1,7 @@
 -- `operators::chosen::listed_there` meets its contract: the faces passed have non-zero entries.
 use mathlib.Core.Path.{◌≡◌, sym, ap, ◌∙◌}
 use mathlib.Core.Bool.{not}
-use Prim.Native.Nat.{◌-◌, ◌<◌}
+use Prim.Native.Nat.{◌<◌}
 use native.Mathlib.Omega.{arith}
 use mir.Syntax.{w8}
 use Rattle.maths.specs.Tests.{is_zero}

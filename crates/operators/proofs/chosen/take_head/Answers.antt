@@ -1,17 +1,14 @@
 -- `operators::chosen::take_head` meets its contract: the first i entries are those of the part.
 use mathlib.Core.Path.{ap, ◌∙◌}
 use mathlib.Core.Bool.{cond}
-use Prim.Native.Nat.{◌-◌}
 use native.Mathlib.Omega.{arith}
 use lib.IntN.{pos}
 use mir.Syntax.{w8}
 use Rattle.maths.specs.Tests.{eq_z}
-use Rattle.maths.specs.Tables.{column}
 use Rattle.maths.proofs.Sizes.{back}
 use Rattle.maths.proofs.Tables.{is-table}
 use Rattle.maths.proofs.Sweep.{filled_none, filled_more}
 use Rattle.rules.specs.Edits.{part}
-use Rattle.operators.specs.Part.{head}
 use Rattle.operators.proofs.chosen.Parts.{column_entry}
 use Rattle.operators.proofs.chosen.take_head.Goals as goal
 

@@ -1,11 +1,9 @@
 -- `operators::chosen::take_listed` meets its contract: the faces passed are marked with their entries, and all else is 0.
 use mathlib.Core.Path.{sym, ◌∙◌}
-use Prim.Native.Nat.{◌-◌, ◌<◌}
+use Prim.Native.Nat.{◌<◌}
 use native.Mathlib.Omega.{arith}
-use Rattle.maths.specs.Tables.{column}
 use mir.Syntax.{w8}
 use Rattle.maths.proofs.Sizes.{back}
-use Rattle.operators.specs.Part.{numbers}
 use Rattle.operators.proofs.chosen.Parts.{column_entry, mark_begin, mark_more, mark_end}
 use Rattle.operators.proofs.chosen.take_listed.Goals as goal
 use Rattle.operators.proofs.chosen.take_listed.Goals.{After-byte_at-i}

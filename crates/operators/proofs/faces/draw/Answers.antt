@@ -1,6 +1,5 @@
 -- `operators::faces::draw` meets its contract: after l turns the column is the sum of the first l faces, which are all below n.
 use mathlib.Core.Path.{◌≡◌, sym, ◌∙◌}
-use Prim.Native.Nat.{◌-◌}
 use native.Mathlib.Omega.{arith}
 use mir.Syntax.{w8}
 use mir.Val.{to_z, of_z}

@@ -1,7 +1,6 @@
 -- `operators::halves::leave_rest` meets its contract: the rows below i of column c have the rest, and row i is still the old one.
 use mathlib.Core.Path.{ap₂, ◌∙◌}
 use mathlib.Core.Bool.{cond}
-use Prim.Native.Nat.{◌-◌}
 use native.Mathlib.Omega.{arith}
 use lib.IntN.{pos}
 use mir.Syntax.{w8}

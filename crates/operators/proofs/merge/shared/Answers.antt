@@ -2,13 +2,12 @@
 use mathlib.Core.Path.{◌≡◌, sym}
 use mathlib.Core.Bool.{Bool}
 use mathlib.Core.List.{List}
-use Prim.Native.Nat.{ℕ, ◌+◌, ◌-◌, ◌*◌, ◌<◌}
+use Prim.Native.Nat.{ℕ, ◌+◌, ◌*◌, ◌<◌}
 use native.Mathlib.Omega.{arith}
 use lib.IntN.{ℤ, pos}
 use lib.ListN.{get_or}
 use mir.Syntax.{w8}
 use borrow.Author.Rules.{rules}
-use Rattle.maths.specs.Tests.{count}
 use Rattle.maths.specs.Tables.{entries}
 use Rattle.maths.proofs.Tests.{count_none}
 use Rattle.maths.proofs.Tables.{entries_in}
