@@ -36,7 +36,7 @@ loop-i-preserved c =
     let s = c.args.s.now in
     let those = c.loop-i.invariant.those in
     let z = c.in-Found.z in
-    let stored : to_z w32 (of_z w32 z) ≡ z = back w32 c.known_told-1.given.0.1 in
+    let stored : to_z w32 (of_z w32 z) ≡ z = back w32 (omega arith) in
     record {
       those = those ++ (z ∷ []);
       sofar =
