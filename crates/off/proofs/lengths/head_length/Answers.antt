@@ -1,7 +1,5 @@
 -- `off::lengths::head_length` meets its contract: three numbers, and seven bytes about them.
 use native.Mathlib.Omega.{arith}
-use lib.ListN.{length}
-use Rattle.off.specs.Exporting.{number}
 use Rattle.off.proofs.lengths.Decimal.{number-most}
 use Rattle.off.proofs.lengths.LineLengths.{head-length-is}
 use Rattle.off.proofs.lengths.head_length.Goals as goal

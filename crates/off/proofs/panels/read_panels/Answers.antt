@@ -1,11 +1,8 @@
 -- `off::panels::read_panels` meets its contract: it reads as `several` does, and each ring is sewn on to what the rings before it came to.
 use mathlib.Core.Path.{◌≡◌, sym, ◌∙◌}
-use Prim.Native.Nat.{ℕ, ◌-◌}
+use Prim.Native.Nat.{ℕ}
 use native.Mathlib.Omega.{arith}
-use lib.ListN.{length, get_or, drop, length-replicate}
-use Rattle.off.specs.Reading.{RingHere}
-use Rattle.off.specs.Plain.{ring}
-use Rattle.off.specs.Lying.{drawn}
+use lib.ListN.{length, length-replicate}
 use Rattle.off.proofs.sewing.SeamAdded.{drawn-sizes}
 use Rattle.off.proofs.panels.PanelsGoing.{going_none, going_done, going_none-there, next-ring, going_on}
 use Rattle.off.proofs.panels.read_panels.Goals as goal

@@ -1,5 +1,4 @@
 -- `off::places::put_rings` meets its contract: the lines of the panels below j are put.
-use Prim.Native.Nat.{◌-◌}
 use native.Mathlib.Omega.{arith}
 use borrow.Author.Rules.{rules}
 use Rattle.off.proofs.walks.Measuring.{few-seams}

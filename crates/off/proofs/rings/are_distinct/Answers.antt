@@ -1,5 +1,5 @@
 -- `are_distinct` marks each corner that it meets: one that is marked already is one of those before it.
-use Prim.Native.Nat.{ℕ, ◌-◌, ◌<◌}
+use Prim.Native.Nat.{ℕ, ◌<◌}
 use native.Mathlib.Omega.{arith}
 use lib.ListN.{get_or, length-replicate, get_or-replicate}
 use Rattle.off.proofs.rings.Marks.{low-at, marked_none, marked_again, marked_more, marked_all}

@@ -1,6 +1,5 @@
 -- `off::sewing::meet_sides` meets its contract: each turn meets the next side, as `meet_sides` does, and the first refusal ends both.
 use mathlib.Core.Path.{◌≡◌, sym}
-use Prim.Native.Nat.{◌-◌}
 use native.Mathlib.Omega.{arith}
 use lib.ListN.{get_or, take}
 use lib.Seq.{get_or-take}

@@ -1,6 +1,6 @@
 -- `off::sewing::put_sides` meets its contract: each turn puts the next side, and the last leaves the chain of them all.
 use mathlib.Core.Path.{◌≡◌, sym}
-use Prim.Native.Nat.{◌-◌, ◌<◌}
+use Prim.Native.Nat.{◌<◌}
 use native.Mathlib.Omega.{arith}
 use lib.ListN.{get_or, take}
 use lib.Seq.{get_or-take}

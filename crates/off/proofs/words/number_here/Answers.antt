@@ -6,7 +6,6 @@ use native.Mathlib.Omega.{arith}
 use lib.ListN.{get_or}
 use Rattle.off.specs.Words.{is_digit, number_of, number_here}
 use Rattle.off.proofs.words.Numbers.{digit-from, digit_to, digit_more, digit-none, digit-over, digit-past, pow_more, pow_small}
-use Rattle.off.proofs.words.number_here.Invariants.{Counted}
 use Rattle.off.proofs.words.number_here.Goals as goal
 use Rattle.off.proofs.words.number_here.Goals.{Else-next-at-ge7, Else-not-is_digit}
 
