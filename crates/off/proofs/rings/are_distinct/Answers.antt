@@ -9,7 +9,7 @@ use Rattle.off.proofs.rings.are_distinct.Goals.{In-loop-l}
 pub loop-l-init : goal.loop-l-init
 loop-l-init c = marked_none _ _ _ (length-replicate {A = ℕ} 96 0) (λ k h. get_or-replicate 96 k 0 0 h)
 
--- the corner that is loop-l-preserved is below 96
+-- the corner that is met is below 96
 low : (c : In-loop-l) → let turn = c.before in get_or turn.args.bytes.now turn.loop-l.l 0 < 96
 low c =
     let turn = c.before in
