@@ -14,7 +14,7 @@ use Rattle.maths.proofs.Tables.{get_d_table}
 use Rattle.rules.specs.Complex.{Complex}
 use Rattle.rules.specs.Good.{Good}
 use Rattle.off.specs.Words.{found, farthest}
-use Rattle.off.specs.Plain.{Plain, plain, read_off}
+use Rattle.off.specs.Plain.{Plain, read_off}
 use Rattle.off.specs.Rings.{SameRing}
 use Rattle.off.specs.Sewing.{sewn, sew}
 use Rattle.off.specs.Exporting.{list_of, ring_of, is_plain, coordinates_near, plain_of, corner_line, ring_line, write_off, export_text}

@@ -17,7 +17,7 @@ use Rattle.rules.specs.Complex.{Layer, Complex, Chain}
 use Rattle.rules.specs.Good.{Good}
 use Rattle.rules.specs.Edits.{put}
 use Rattle.rules.specs.Operators.{chain_of}
-use Rattle.rules.specs.Mesh.{face_count, corners}
+use Rattle.rules.specs.Mesh.{face_count}
 use Rattle.rules.proofs.Layers.Changes.{put_same, put_no}
 use Rattle.rules.proofs.Edits.Makes.{make-here, make_other}
 use Rattle.rules.proofs.Texts.ReadGood.{corners-good}

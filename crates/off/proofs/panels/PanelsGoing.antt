@@ -12,7 +12,7 @@ use Rattle.rules.specs.Counts.{count_of}
 use Rattle.rules.specs.Refusals.{accepted}
 use Rattle.rules.specs.Complex.{Layer}
 use Rattle.off.specs.declared.answers.Imported.{Imported}
-use Rattle.off.specs.Words.{none, found}
+use Rattle.off.specs.Words.{none}
 use Rattle.off.specs.Plain.{Ring, several, ring}
 use Rattle.off.specs.Reading.{RingHere}
 use Rattle.off.specs.Sewing.{Sewn, refused, sewn, after_sewn, sew_ring, sew_all}

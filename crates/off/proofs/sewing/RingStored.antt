@@ -145,7 +145,7 @@ module _ {c : Counts} {bytes : List ℕ} {n : ℕ} {m1 m2 m3 : List ℤ} (R : Ri
           four = D.held.sized.four
 
           grown : drawn (grown_at c' 2) m1' m2' ≡ layers (make 2 v Y)
-          grown = grown_drawn c' four m1' m2 v 2 (omega arith) (omega arith)
+          grown = grown_drawn c' four m1' m2 v 2 (omega arith) (omega arith) m1' m2'
               (ap (λ k. layer k m1') (grown_there c' four 2 (omega arith) 1 (omega arith)) ∙ sym (make_other 2 v Y 1 (omega arith)))
               (same_layer (grown_here c' four 2 (omega arith)) column ∙ sym (make-here 2 v Y))
 

@@ -11,7 +11,6 @@ use Rattle.rules.specs.Complex.{Layer, Complex}
 use Rattle.rules.specs.Good.{Good}
 use Rattle.rules.specs.Edits.{layers, make}
 use Rattle.rules.specs.Operators.{chain_of}
-use Rattle.rules.specs.Mesh.{corners}
 use Rattle.rules.proofs.Branches.Branches.{cond_each}
 use Rattle.rules.proofs.Texts.ReadGood.{corners-good}
 use Rattle.rules.proofs.Edits.Makes.{make-here, make_other}

@@ -56,7 +56,7 @@ module _ {c : Counts} {a b : ℕ} {m1 m3 m1₁ m1₂ m3₁ m3₂ : List ℤ} (N 
         (seam_stored ends N.room m1 (λ i. H.good.columns 1 i (count_of c 1) (omega arith)) e₁ e₂)
 
     grown : drawn c' m1₂ m2 ≡ layers (make 1 v X)
-    grown = grown_drawn c H.sized.four m1 m2 v 1 (omega arith) (omega arith)
+    grown = grown_drawn c H.sized.four m1 m2 v 1 (omega arith) (omega arith) m1₂ m2
         (seams ∙ sym (make-here 1 v X))
         (ap (λ n. layer n m2) (grown_there c H.sized.four 1 (omega arith) 2 (omega arith)) ∙ sym (make_other 1 v X 2 (omega arith)))
 

@@ -46,11 +46,11 @@ module _ (c : Counts) (four : length c.n ≡ 4) (k : ℕ) (dim : k < 4) where
 
 -- the pattern with one seam or panel more
 module _ (c : Counts) (four : length c.n ≡ 4) (m1 m2 : List ℤ) (v : Chain) (k : ℕ) (some : 0 < k) (dim : k < 3) where
-  pub grown_drawn : {m1' m2' : List ℤ} →
+  pub grown_drawn : (m1' m2' : List ℤ) →
       layer (count_of (grown_at c k) 1) m1' ≡ layers (make k v (drawn c m1 m2)) 1 →
       layer (count_of (grown_at c k) 2) m2' ≡ layers (make k v (drawn c m1 m2)) 2 →
       drawn (grown_at c k) m1' m2' ≡ layers (make k v (drawn c m1 m2))
-  grown_drawn {m1'} {m2'} seams panels = fun_ext at
+  grown_drawn m1' m2' seams panels = fun_ext at
     where
       old : (q : ℕ) → q ≢ k → drawn c m1 m2 q ≡ layers (make k v (drawn c m1 m2)) q
       old q e = sym (make_other k v (drawn c m1 m2) q e)

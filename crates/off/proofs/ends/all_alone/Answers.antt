@@ -1,9 +1,7 @@
 -- `off::ends::all_alone` meets its contract: every seam before j is alone, and the first that is not ends the loop.
 use mathlib.Core.Path.{sym, ◌∙◌}
-use Prim.Native.Nat.{◌-◌}
 use native.Mathlib.Omega.{arith}
 use Rattle.grid.proofs.Joined.{passed_none, passed_more, passed_not, passed_all}
-use Rattle.off.specs.Exporting.{is_alone}
 use Rattle.off.proofs.ends.all_alone.Goals as goal
 
 pub returns-then-not-is_alone : goal.returns-then-not-is_alone

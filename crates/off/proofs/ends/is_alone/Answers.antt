@@ -1,7 +1,6 @@
 -- `off::ends::is_alone` meets its contract: every seam before i has other ends than seam j, and the first that has the same ends the loop.
 use mathlib.Core.Path.{sym, ap, ◌∙◌}
 use mathlib.Core.Bool.{not}
-use Prim.Native.Nat.{◌-◌}
 use native.Mathlib.Omega.{arith}
 use Rattle.grid.proofs.Joined.{passed_none, passed_more, passed_not, passed_all}
 use Rattle.off.proofs.ends.SameEnds.{alone_is}

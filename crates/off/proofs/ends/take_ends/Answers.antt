@@ -1,5 +1,4 @@
 -- `off::ends::take_ends` meets its contract: the ends of the seams before j are found, and those of seam j are put in their places.
-use Prim.Native.Nat.{◌-◌}
 use native.Mathlib.Omega.{arith}
 use Rattle.off.proofs.ends.EndsFound.{end_low, ends-none, ends_more, ends-all}
 use Rattle.off.proofs.ends.take_ends.Goals as goal

@@ -1,6 +1,6 @@
 -- `off::lengths::corners_length` meets its contract: the length is that of the lines of the corners below i.
 use mathlib.Core.Path.{◌≡◌}
-use Prim.Native.Nat.{◌+◌, ◌-◌}
+use Prim.Native.Nat.{◌+◌}
 use native.Mathlib.Omega.{arith}
 use Rattle.off.proofs.lengths.LineLengths.{corners-none, corners_more, corners-most}
 use Rattle.off.proofs.writer.Nearness.{near-at}

@@ -1,9 +1,8 @@
 -- `off::lengths::ring_length` meets its contract: the length is that of the count, of a byte, and of the corners below l.
 use mathlib.Core.Path.{◌≡◌}
-use Prim.Native.Nat.{◌+◌, ◌-◌}
+use Prim.Native.Nat.{◌+◌}
 use native.Mathlib.Omega.{arith}
 use lib.ListN.{length as long, take}
-use Rattle.off.specs.Exporting.{number}
 use Rattle.off.specs.Writing.{spaced}
 use Rattle.off.proofs.lengths.Decimal.{number-most}
 use Rattle.off.proofs.lengths.LineLengths.{spaced-none, spaced_more, spaced-most}

@@ -1,7 +1,6 @@
 -- `read_coordinates` turns as `several` does, and puts each coordinate that it reads at the next place of the list of zeros.
 use mathlib.Core.Path.{◌≡◌, sym, ap, ◌∙◌}
 use mathlib.Core.List.{[], ◌∷◌, ◌++◌}
-use Prim.Native.Nat.{◌-◌}
 use native.Mathlib.Omega.{arith}
 use mir.Syntax.{w32}
 use mir.Val.{to_z, of_z}
@@ -9,10 +8,8 @@ use lib.ListN.{length}
 use Rattle.maths.proofs.Sizes.{back}
 use Rattle.off.specs.Words.{coordinate}
 use Rattle.off.specs.Reading.{coordinate_found}
-use Rattle.off.specs.Calls.{laid}
 use Rattle.off.proofs.lines.Several.{none_yet, one_more_lem, no_more, all_read, laid_none, laid_more, length-laid}
 use Rattle.off.proofs.words.Numbers.{told}
-use Rattle.off.proofs.lines.read_coordinates.Invariants.{Taken}
 use Rattle.off.proofs.lines.read_coordinates.Goals as goal
 use Rattle.off.proofs.lines.read_coordinates.Goals.{At-loop-i}
 
@@ -36,7 +33,7 @@ loop-i-preserved c =
     let s = c.args.s.now in
     let those = c.loop-i.invariant.those in
     let z = c.in-Found.z in
-    let stored : to_z w32 (of_z w32 z) ≡ z = back w32 c.known_told-1.given.0.1 in
+    let stored : to_z w32 (of_z w32 z) ≡ z = back w32 (omega arith) in
     record {
       those = those ++ (z ∷ []);
       sofar =

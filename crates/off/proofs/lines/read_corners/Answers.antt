@@ -1,13 +1,11 @@
 -- `read_corners` turns as `several` does, and `take_corner` keeps the corners below the limit in the bytes as far as they have room.
 use mathlib.Core.Path.{◌≡◌}
 use mathlib.Core.List.{[], ◌∷◌, ◌++◌}
-use Prim.Native.Nat.{◌-◌}
 use native.Mathlib.Omega.{arith}
 use Rattle.off.specs.Words.{natural}
 use Rattle.off.specs.Reading.{number_found}
 use Rattle.off.proofs.lines.Several.{none_yet, one_more_lem, no_more, all_read, placed_none, placed_more}
 use Rattle.off.proofs.words.Numbers.{told}
-use Rattle.off.proofs.lines.read_corners.Invariants.{Taken}
 use Rattle.off.proofs.lines.read_corners.Goals as goal
 
 pub loop-l-init : goal.loop-l-init

@@ -1,15 +1,12 @@
 -- `off::panels::read_panels` meets its contract: it reads as `several` does, and each ring is sewn on to what the rings before it came to.
 use mathlib.Core.Path.{◌≡◌, sym, ◌∙◌}
-use Prim.Native.Nat.{ℕ, ◌-◌}
+use Prim.Native.Nat.{ℕ}
 use native.Mathlib.Omega.{arith}
-use lib.ListN.{length, get_or, drop, length-replicate}
-use Rattle.off.specs.Reading.{RingHere}
-use Rattle.off.specs.Plain.{ring}
-use Rattle.off.specs.Lying.{drawn}
+use lib.ListN.{length, length-replicate}
 use Rattle.off.proofs.sewing.SeamAdded.{drawn-sizes}
 use Rattle.off.proofs.panels.PanelsGoing.{going_none, going_done, going_none-there, next-ring, going_on}
 use Rattle.off.proofs.panels.read_panels.Goals as goal
-use Rattle.off.proofs.panels.read_panels.Goals.{After-counts-1, After-read_ring, At-loop, In-Found-2}
+use Rattle.off.proofs.panels.read_panels.Goals.{After-read_ring, At-loop}
 
 pub loop-init : goal.loop-init
 loop-init c =
@@ -17,32 +14,23 @@ loop-init c =
 
 pub read_ring-requires : goal.read_ring-requires
 read_ring-requires c =
-    record { read_ring-requires = c.loop.invariant.room; small = c.requires.drawn.held.good.few 0 }
+    record { room = c.loop.invariant.room; small = c.requires.drawn.held.good.few 0 }
 
 pub returns-in-None : goal.returns-in-None
 returns-in-None c =
     going_none-there c.loop.invariant c.loop-test.true (rw c.in-None.is at c.read_ring.ensures)
 
--- the ring that was read
-here : (c : In-Found-2) →
-    let call = c.before.before.before in
-    let turn = call.before.before.before in
-    let x = turn.args in
-    RingHere x.s.now (get_or x.c.n 0 0) (ring (drop turn.loop.next x.s.now))
-    c.in-Found.below c.in-Found.length c.in-Found.after call.read_ring.new.bytes
-here c = let call = c.before.before.before in rw c.in-Found.is at call.read_ring.ensures
-
 -- its bytes are as many as before
 long : (c : After-read_ring) → length c.read_ring.new.bytes ≡ 96
-long c = c.read_ring.auto.1.1.1.0 ∙ c.loop.invariant.room
+long c = c.read_ring.auto.bytes ∙ c.loop.invariant.room
 
 pub sew_next-so_far-requires : goal.sew_next-so_far-requires
 sew_next-so_far-requires c =
-    next-ring c.loop.invariant c.requires.few c.loop-test.true (here (goal.at.sew_next-so_far-requires c).In-Found-2) (long (goal.at.sew_next-so_far-requires c).After-read_ring)
+    next-ring c.loop.invariant c.requires.few c.loop-test.true c.in-Found.ensures (long (goal.at.sew_next-so_far-requires c).After-read_ring)
 
 pub loop-preserved : goal.loop-preserved
 loop-preserved c =
-    going_on c.loop.invariant c.requires.few c.loop-test.true (here (goal.at.loop-preserved c).In-Found-2) (long (goal.at.loop-preserved c).After-read_ring) c.sew_next-so_far.ensures
+    going_on c.loop.invariant c.requires.few c.loop-test.true c.in-Found.ensures (long (goal.at.loop-preserved c).After-read_ring) c.sew_next-so_far.ensures
 
 pub returns : goal.returns
 returns c = going_done c.loop.invariant (omega arith)
@@ -55,21 +43,17 @@ sizes c =
     let old = drawn-sizes c.requires.drawn in
     (now.size1 ∙ sym old.size1, now.size2 ∙ sym old.size2, now.size3 ∙ sym old.size3)
 
--- where no ring was found
-abbrev left : (c : After-counts-1) → At-loop
-left c = c.before.before.before.before.before.before.before
-
 pub slice_bounds-read_ring-end : goal.slice_bounds-read_ring-end
 slice_bounds-read_ring-end c = sym c.loop.invariant.room
 
 pub shape_of-m1-in-None : goal.shape_of-m1-in-None
-shape_of-m1-in-None c = (sizes (left (goal.at.shape_of-m1-in-None c).After-counts-1)).0
+shape_of-m1-in-None c = (sizes (goal.at.shape_of-m1-in-None c).At-loop).0
 
 pub shape_of-m2-in-None : goal.shape_of-m2-in-None
-shape_of-m2-in-None c = (sizes (left (goal.at.shape_of-m2-in-None c).After-counts-1)).1
+shape_of-m2-in-None c = (sizes (goal.at.shape_of-m2-in-None c).At-loop).1
 
 pub shape_of-m3-in-None : goal.shape_of-m3-in-None
-shape_of-m3-in-None c = (sizes (left (goal.at.shape_of-m3-in-None c).After-counts-1)).2
+shape_of-m3-in-None c = (sizes (goal.at.shape_of-m3-in-None c).At-loop).2
 
 pub slice_bounds-sew_next-end : goal.slice_bounds-sew_next-end
 slice_bounds-sew_next-end c = sym (long (goal.at.slice_bounds-sew_next-end c).After-read_ring)

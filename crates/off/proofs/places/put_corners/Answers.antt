@@ -1,5 +1,4 @@
 -- `off::places::put_corners` meets its contract: the lines of the corners below i are put.
-use Prim.Native.Nat.{◌-◌}
 use native.Mathlib.Omega.{arith}
 use Rattle.maths.proofs.Buffers.{pieces_none, pieces_fit, pieces_more, pieces_all}
 use Rattle.off.proofs.writer.Nearness.{near-at}

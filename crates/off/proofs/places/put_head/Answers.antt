@@ -6,14 +6,7 @@ use Rattle.maths.proofs.Buffers.{two_pieces}
 use Rattle.off.specs.Exporting.{number, head_lines}
 use Rattle.off.proofs.lengths.LineLengths.{head-length-is}
 use Rattle.off.proofs.places.put_head.Goals as goal
-use Rattle.off.proofs.places.put_head.Goals.{After-put-after_a, After-put-after_b, After-put_all-first, After-put_number-a, After-put_number-b, Start}
-
--- from a blank back to the entry
-abbrev at_entry : After-put-after_a → Start
-at_entry c = c.before.before.before.before.before.before.before.before.before.before.before.before
-
-abbrev at-entry2 : After-put-after_b → Start
-at-entry2 c = at_entry c.before.before.before.before.before.before.before.before
+use Rattle.off.proofs.places.put_head.Goals.{After-put-after_a, After-put-after_b, After-put_all-first, After-put_number-a, After-put_number-b}
 
 -- the room that is left after each call
 after-keyword : (c : After-put_all-first) → let a = c.args in
@@ -24,18 +17,70 @@ after-keyword c =
 
 after-corners : (c : After-put_number-a) → let a = c.args in
     c.put_number-a.result + (length (number a.panels) + length (number a.seams) + 3) ≤ length c.put_number-a.new.out
-after-corners c = omega (arith, after-keyword c.before.before.before.before, c.put_number-a.ensures.place, c.put_number-a.ensures.size)
+after-corners c =
+    let a = c.args in
+    omega (
+      arith,
+      head-length-is a.corners a.panels a.seams,
+      c.requires.room,
+      c.put_all-first.ensures.place,
+      c.put_all-first.ensures.size,
+      c.put_number-a.ensures.place,
+      c.put_number-a.ensures.size,
+    )
 
-after-blank : (c : After-put-after_a) → let a = (at_entry c).args in
+after-blank : (c : After-put-after_a) → let a = c.args in
     c.put-after_a.result + (length (number a.panels) + length (number a.seams) + 2) ≤ length c.put-after_a.new.out
-after-blank c = omega (arith, after-corners c.before.before.before.before, c.put-after_a.ensures.place, c.put-after_a.ensures.size)
+after-blank c =
+    let a = c.args in
+    omega (
+      arith,
+      head-length-is a.corners a.panels a.seams,
+      c.requires.room,
+      c.put_all-first.ensures.place,
+      c.put_all-first.ensures.size,
+      c.put_number-a.ensures.place,
+      c.put_number-a.ensures.size,
+      c.put-after_a.ensures.place,
+      c.put-after_a.ensures.size,
+    )
 
-after-panels : (c : After-put_number-b) → let a = (at_entry c.before.before.before.before).args in
+after-panels : (c : After-put_number-b) → let a = c.args in
     c.put_number-b.result + (length (number a.seams) + 2) ≤ length c.put_number-b.new.out
-after-panels c = omega (arith, after-blank c.before.before.before.before, c.put_number-b.ensures.place, c.put_number-b.ensures.size)
+after-panels c =
+    let a = c.args in
+    omega (
+      arith,
+      head-length-is a.corners a.panels a.seams,
+      c.requires.room,
+      c.put_all-first.ensures.place,
+      c.put_all-first.ensures.size,
+      c.put_number-a.ensures.place,
+      c.put_number-a.ensures.size,
+      c.put-after_a.ensures.place,
+      c.put-after_a.ensures.size,
+      c.put_number-b.ensures.place,
+      c.put_number-b.ensures.size,
+    )
 
-after-blank2 : (c : After-put-after_b) → c.put-after_b.result + (length (number (at-entry2 c).args.seams) + 1) ≤ length c.put-after_b.new.out
-after-blank2 c = omega (arith, after-panels c.before.before.before.before, c.put-after_b.ensures.place, c.put-after_b.ensures.size)
+after-blank2 : (c : After-put-after_b) → c.put-after_b.result + (length (number c.args.seams) + 1) ≤ length c.put-after_b.new.out
+after-blank2 c =
+    let a = c.args in
+    omega (
+      arith,
+      head-length-is a.corners a.panels a.seams,
+      c.requires.room,
+      c.put_all-first.ensures.place,
+      c.put_all-first.ensures.size,
+      c.put_number-a.ensures.place,
+      c.put_number-a.ensures.size,
+      c.put-after_a.ensures.place,
+      c.put-after_a.ensures.size,
+      c.put_number-b.ensures.place,
+      c.put_number-b.ensures.size,
+      c.put-after_b.ensures.place,
+      c.put-after_b.ensures.size,
+    )
 
 pub put_all-first-requires : goal.put_all-first-requires
 put_all-first-requires c =
@@ -48,11 +93,11 @@ put_number-a-requires c =
 
 pub put_number-b-requires : goal.put_number-b-requires
 put_number-b-requires c =
-    record { small = omega (arith, (at_entry (goal.at.put_number-b-requires c).After-put-after_a).requires.few-panels); room = omega (arith, after-blank (goal.at.put_number-b-requires c).After-put-after_a) }
+    record { small = omega (arith, c.requires.few-panels); room = omega (arith, after-blank (goal.at.put_number-b-requires c).After-put-after_a) }
 
 pub put_number-d-requires : goal.put_number-d-requires
 put_number-d-requires c =
-    record { small = omega (arith, (at-entry2 (goal.at.put_number-d-requires c).After-put-after_b).requires.few-seams); room = omega (arith, after-blank2 (goal.at.put_number-d-requires c).After-put-after_b) }
+    record { small = omega (arith, c.requires.few-seams); room = omega (arith, after-blank2 (goal.at.put_number-d-requires c).After-put-after_b) }
 
 pub put-after_a-requires : goal.put-after_a-requires
 put-after_a-requires c = omega (arith, after-corners (goal.at.put-after_a-requires c).After-put_number-a)

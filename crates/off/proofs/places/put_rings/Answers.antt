@@ -1,5 +1,4 @@
 -- `off::places::put_rings` meets its contract: the lines of the panels below j are put.
-use Prim.Native.Nat.{◌-◌}
 use native.Mathlib.Omega.{arith}
 use borrow.Author.Rules.{rules}
 use Rattle.off.proofs.walks.Measuring.{few-seams}
@@ -9,7 +8,7 @@ use Rattle.off.proofs.places.put_rings.Goals as goal
 pub go_round-requires : goal.go_round-requires
 go_round-requires c =
     record {
-      panel = record { line = search rules; ends = c.requires.there.ends; go_round-requires = c.loop-j.invariant.room };
+      panel = record { line = search rules; ends = c.requires.there.ends; room = c.loop-j.invariant.room };
       few = rw c.column_count-n.ensures (few-seams c.args.m2.now c.loop-j.j);
     }
 

@@ -1,4 +1,4 @@
--- `off::places::put_signed` meets its contract: a number below 0 is a and.before.before.before its size, and any other is its size.
+-- `off::places::put_signed` meets its contract: a number below 0 is a sign and its size, and any other is its size.
 use mathlib.Core.Path.{◌≡◌}
 use mathlib.Core.Bool.{true, false}
 use Prim.Native.Nat.{suc}

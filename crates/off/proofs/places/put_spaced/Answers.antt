@@ -1,7 +1,5 @@
 -- `off::places::put_spaced` meets its contract: the corners below l are put.
-use Prim.Native.Nat.{◌-◌}
 use native.Mathlib.Omega.{arith}
-use lib.ListN.{take}
 use Rattle.maths.proofs.Buffers.{pieces_none, pieces_fit, pieces_more, pieces_all}
 use Rattle.off.proofs.lengths.FirstBytes.{byte_taken, byte_low}
 use Rattle.off.proofs.places.put_spaced.Goals as goal

@@ -1,11 +1,9 @@
 -- `clear_coordinates` sets place after place: after i turns the first i are 0.
 use mathlib.Core.Path.{refl, ◌∙◌}
-use Prim.Native.Nat.{◌-◌}
 use native.Mathlib.Omega.{arith}
 use lib.IntN.{pos}
 use Rattle.maths.proofs.Sweep.{filled_none, filled_more}
 use Rattle.maths.proofs.Tables.{is-table}
-use Rattle.off.proofs.reader.clear_coordinates.Invariants.{Cleared}
 use Rattle.off.proofs.reader.clear_coordinates.Goals as goal
 
 pub loop-i-init : goal.loop-i-init

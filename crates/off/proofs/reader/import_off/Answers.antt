@@ -1,4 +1,4 @@
--- `off::reader::import_off` meets its contract: lengths first; then the text is into.before.before.before.before.before.before.before.before blank lists, and what it leaves is taken, or cleared again.
+-- `off::reader::import_off` meets its contract: lengths first; then the text is read into blank lists, and what it leaves is taken, or cleared again.
 use mathlib.Core.Path.{◌≡◌, refl, sym, ap, ◌∙◌}
 use mathlib.Core.Bool.{true}
 use lib.ListN.{length}
@@ -9,13 +9,13 @@ use Rattle.rules.specs.Lending.{as_lent}
 use Rattle.rules.proofs.Storage.Stored.{all-sized}
 use Rattle.off.proofs.reader.ImportAnswers.{short-matrix, short_list, refused-left, taken-left}
 use Rattle.off.proofs.reader.import_off.Goals as goal
-use Rattle.off.proofs.reader.import_off.Goals.{After-no_pattern-then-answer-ne-ACCEPTED, After-read_text-answer, Else-list-ne-COORDINATES, Else-not-is_sized}
+use Rattle.off.proofs.reader.import_off.Goals.{Else-list-ne-COORDINATES, Else-not-is_sized}
 
 long : (c : Else-not-is_sized) → sized (as_lent (counts_of empty) c.args.m1.now c.args.m2.now c.args.m3.now) ≡ true
 long c = sym c.is_sized.ensures ∙ c.if-not-is_sized.false
 
 sizes : (c : Else-list-ne-COORDINATES) → Sized (as_lent (counts_of empty) c.args.m1.now c.args.m2.now c.args.m3.now)
-sizes c = all-sized (as_lent (counts_of empty) c.args.m1.now c.args.m2.now c.args.m3.now) refl (long c.before)
+sizes c = all-sized (as_lent (counts_of empty) c.args.m1.now c.args.m2.now c.args.m3.now) refl (sym c.is_sized.ensures ∙ c.if-not-is_sized.false)
 
 pub returns-then-not-is_sized : goal.returns-then-not-is_sized
 returns-then-not-is_sized c =
@@ -26,38 +26,23 @@ pub returns-then-list-ne-COORDINATES : goal.returns-then-list-ne-COORDINATES
 returns-then-list-ne-COORDINATES c =
     rw c.no_pattern-then-list-ne-COORDINATES.ensures (short_list c.args.s.now (as_lent (counts_of empty) c.args.m1.now c.args.m2.now c.args.m3.now) c.args.list.now (long (goal.at.returns-then-list-ne-COORDINATES c).Else-not-is_sized) c.if-list-ne-COORDINATES.true)
 
--- before the text is all.before.before.before.before.before.before.before.before is blank
+-- before the text is read all is blank
 pub read_text-answer-requires : goal.read_text-answer-requires
 read_text-answer-requires c =
     record { none1 = c.clear.ensures; none2 = c.clear-2.ensures; none3 = c.clear-3.ensures; zeros = c.clear_coordinates.ensures }
 
--- the lengths, before the text is read
-abbrev passed : After-read_text-answer → Else-list-ne-COORDINATES
-passed c =
-    c.before.before.before.before.before.before.before.before.before.before.before.before.before.before.before.before.before
-
 pub returns-then-answer-ne-ACCEPTED : goal.returns-then-answer-ne-ACCEPTED
 returns-then-answer-ne-ACCEPTED c =
-    let lengths = passed (goal.at.returns-then-answer-ne-ACCEPTED c).After-read_text-answer in
-    let s = lengths.before.before.before.before.before.before.before in
-    refused-left s.args.s.now (as_lent (counts_of empty) s.args.m1.now s.args.m2.now s.args.m3.now) s.args.list.now (long lengths.before) lengths.if-list-ne-COORDINATES.false c.read_text-answer.ensures c.if-answer-ne-ACCEPTED.true
+    let long-there = long (goal.at.returns-then-answer-ne-ACCEPTED c).Else-not-is_sized in
+    refused-left c.args.s.now (as_lent (counts_of empty) c.args.m1.now c.args.m2.now c.args.m3.now) c.args.list.now long-there c.if-list-ne-COORDINATES.false c.read_text-answer.ensures c.if-answer-ne-ACCEPTED.true
     c.no_pattern-then-answer-ne-ACCEPTED.ensures
     (record { none1 = c.clear-then-answer-ne-ACCEPTED.ensures; none2 = c.clear-then-answer-ne-ACCEPTED-2.ensures; none3 = c.clear-4.ensures; zeros = c.clear_coordinates-then-answer-ne-ACCEPTED.ensures })
 
 pub returns : goal.returns
 returns c =
-    let lengths = passed (goal.at.returns c).After-read_text-answer in
-    let s = lengths.before.before.before.before.before.before.before in
-    taken-left s.args.s.now (as_lent (counts_of empty) s.args.m1.now s.args.m2.now s.args.m3.now) s.args.list.now (long lengths.before) lengths.if-list-ne-COORDINATES.false c.read_text-answer.ensures c.if-answer-ne-ACCEPTED.false
+    let long-there = long (goal.at.returns c).Else-not-is_sized in
+    taken-left c.args.s.now (as_lent (counts_of empty) c.args.m1.now c.args.m2.now c.args.m3.now) c.args.list.now long-there c.if-list-ne-COORDINATES.false c.read_text-answer.ensures c.if-answer-ne-ACCEPTED.false
     c.clear-4.ensures
-
--- what the reading left, before matrix 1 is cleared again
-abbrev left : After-no_pattern-then-answer-ne-ACCEPTED → After-read_text-answer
-left c = c.before.before.before.before.before.before.before.before.before.before.before.before.before.before.before.before.before.before.before
-
--- the lengths are what they were
-clear-again : (c : After-no_pattern-then-answer-ne-ACCEPTED) → Sized (entry (begun (passed (left c))))
-clear-again c = sizes (passed (left c))
 
 pub clear-requires : goal.clear-requires
 clear-requires c = (sizes (goal.at.clear-requires c).Else-list-ne-COORDINATES).size1
@@ -69,25 +54,25 @@ pub clear-requires-3 : goal.clear-requires-3
 clear-requires-3 c = (sizes (goal.at.clear-requires-3 c).Else-list-ne-COORDINATES).size3
 
 pub shape_of-m1-then-answer-ne-ACCEPTED : goal.shape_of-m1-then-answer-ne-ACCEPTED
-shape_of-m1-then-answer-ne-ACCEPTED c = ap length c.clear-then-answer-ne-ACCEPTED.ensures ∙ length-tab _ ∙ sym (clear-again (goal.at.shape_of-m1-then-answer-ne-ACCEPTED c).After-no_pattern-then-answer-ne-ACCEPTED).size1
+shape_of-m1-then-answer-ne-ACCEPTED c = ap length c.clear-then-answer-ne-ACCEPTED.ensures ∙ length-tab _ ∙ sym (sizes (goal.at.shape_of-m1-then-answer-ne-ACCEPTED c).Else-list-ne-COORDINATES).size1
 
 pub shape_of-m2-then-answer-ne-ACCEPTED : goal.shape_of-m2-then-answer-ne-ACCEPTED
-shape_of-m2-then-answer-ne-ACCEPTED c = ap length c.clear-then-answer-ne-ACCEPTED-2.ensures ∙ length-tab _ ∙ sym (clear-again (goal.at.shape_of-m2-then-answer-ne-ACCEPTED c).After-no_pattern-then-answer-ne-ACCEPTED).size2
+shape_of-m2-then-answer-ne-ACCEPTED c = ap length c.clear-then-answer-ne-ACCEPTED-2.ensures ∙ length-tab _ ∙ sym (sizes (goal.at.shape_of-m2-then-answer-ne-ACCEPTED c).Else-list-ne-COORDINATES).size2
 
 pub shape_of-m3-then-answer-ne-ACCEPTED : goal.shape_of-m3-then-answer-ne-ACCEPTED
-shape_of-m3-then-answer-ne-ACCEPTED c = ap length c.clear-4.ensures ∙ length-tab _ ∙ sym (clear-again (goal.at.shape_of-m3-then-answer-ne-ACCEPTED c).After-no_pattern-then-answer-ne-ACCEPTED).size3
+shape_of-m3-then-answer-ne-ACCEPTED c = ap length c.clear-4.ensures ∙ length-tab _ ∙ sym (sizes (goal.at.shape_of-m3-then-answer-ne-ACCEPTED c).Else-list-ne-COORDINATES).size3
 
 pub shape_of-list-then-answer-ne-ACCEPTED : goal.shape_of-list-then-answer-ne-ACCEPTED
-shape_of-list-then-answer-ne-ACCEPTED c = let lengths = passed (left (goal.at.shape_of-list-then-answer-ne-ACCEPTED c).After-no_pattern-then-answer-ne-ACCEPTED) in ap length c.clear_coordinates-then-answer-ne-ACCEPTED.ensures ∙ length-table 0 288 _ ∙ sym lengths.if-list-ne-COORDINATES.false
+shape_of-list-then-answer-ne-ACCEPTED c = ap length c.clear_coordinates-then-answer-ne-ACCEPTED.ensures ∙ length-table 0 288 _ ∙ sym c.if-list-ne-COORDINATES.false
 
 pub shape_of-m1 : goal.shape_of-m1
-shape_of-m1 c = c.read_text-answer.ensures.sizes.size1 ∙ sym (sizes (passed (goal.at.shape_of-m1 c).After-read_text-answer)).size1
+shape_of-m1 c = c.read_text-answer.ensures.sizes.size1 ∙ sym (sizes (goal.at.shape_of-m1 c).Else-list-ne-COORDINATES).size1
 
 pub shape_of-m2 : goal.shape_of-m2
-shape_of-m2 c = c.read_text-answer.ensures.sizes.size2 ∙ sym (sizes (passed (goal.at.shape_of-m2 c).After-read_text-answer)).size2
+shape_of-m2 c = c.read_text-answer.ensures.sizes.size2 ∙ sym (sizes (goal.at.shape_of-m2 c).Else-list-ne-COORDINATES).size2
 
 pub shape_of-m3 : goal.shape_of-m3
-shape_of-m3 c = ap length c.clear-4.ensures ∙ length-tab _ ∙ sym (sizes (passed (goal.at.shape_of-m3 c).After-read_text-answer)).size3
+shape_of-m3 c = ap length c.clear-4.ensures ∙ length-tab _ ∙ sym (sizes (goal.at.shape_of-m3 c).Else-list-ne-COORDINATES).size3
 
 pub shape_of-list : goal.shape_of-list
-shape_of-list c = c.read_text-answer.ensures.size ∙ sym (passed (goal.at.shape_of-list c).After-read_text-answer).if-list-ne-COORDINATES.false
+shape_of-list c = c.read_text-answer.ensures.size ∙ sym c.if-list-ne-COORDINATES.false

@@ -18,7 +18,7 @@ pub returns-in-None : goal.returns-in-None
 returns-in-None c =
     let B = c.requires.blanks in
     text-none (no_corners c.args.corners c.args.panels _ (rw c.in-None.is at c.read_coordinates.ensures))
-    (ap (λ a. a.refusal) c.no_pattern.ensures) (blank-sizes B) (c.read_coordinates.auto.1.1.1.0 ∙ blank-length B)
+    (ap (λ a. a.refusal) c.no_pattern.ensures) (blank-sizes B) (c.read_coordinates.auto.list ∙ blank-length B)
 
 pub returns-in-Found : goal.returns-in-Found
 returns-in-Found c =

@@ -1,5 +1,5 @@
 -- `are_distinct` marks each corner that it meets: one that is marked already is one of those before it.
-use Prim.Native.Nat.{ℕ, ◌-◌, ◌<◌}
+use Prim.Native.Nat.{ℕ, ◌<◌}
 use native.Mathlib.Omega.{arith}
 use lib.ListN.{get_or, length-replicate, get_or-replicate}
 use Rattle.off.proofs.rings.Marks.{low-at, marked_none, marked_again, marked_more, marked_all}
@@ -9,7 +9,7 @@ use Rattle.off.proofs.rings.are_distinct.Goals.{In-loop-l}
 pub loop-l-init : goal.loop-l-init
 loop-l-init c = marked_none _ _ _ (length-replicate {A = ℕ} 96 0) (λ k h. get_or-replicate 96 k 0 0 h)
 
--- the corner that is loop-l-preserved is below 96
+-- the corner that is met is below 96
 low : (c : In-loop-l) → let turn = c.before in get_or turn.args.bytes.now turn.loop-l.l 0 < 96
 low c =
     let turn = c.before in

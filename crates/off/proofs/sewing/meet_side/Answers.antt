@@ -19,7 +19,10 @@ tested c = rw (← seam_read c.requires c.is_zero8-arg-1.given) c.is_zero8.ensur
 
 absent : (c : Else-not-is_zero8) → let x = c.args in
     seam_of (layer (count_of x.c 1) x.m1.now) x.a x.b ≡ pos 0
-absent c = zero-true (sym (tested c.before) ∙ c.if-not-is_zero8.false)
+absent c =
+    let x = c.args in
+    let is : c.is_zero8.result ≡ is_zero (seam_of (layer (count_of x.c 1) x.m1.now) x.a x.b) = rw (← seam_read c.requires c.is_zero8-arg-1.given) c.is_zero8.ensures in
+    zero-true (sym is ∙ c.if-not-is_zero8.false)
 
 pub overflow_add-b : goal.overflow_add-b
 overflow_add-b c = omega (arith, first-low c.requires, second-low c.requires)
@@ -35,7 +38,7 @@ returns-then-c-eq-SIDE c =
 pub add_seam-counts-requires : goal.add_seam-counts-requires
 add_seam-counts-requires c =
     let h = c.requires in
-    record { corners = h; absent = absent (goal.at.add_seam-counts-requires c).Else-not-is_zero8; add_seam-counts-requires = omega (arith, h.seams.drawn.held.good.few 1) }
+    record { corners = h; absent = absent (goal.at.add_seam-counts-requires c).Else-not-is_zero8; room = omega (arith, h.seams.drawn.held.good.few 1) }
 
 pub returns : goal.returns
 returns c =

@@ -1,6 +1,5 @@
 -- `off::walks::fill_next` meets its contract: the list is that of the seams before i, and seam i is put in.
 use mathlib.Core.Path.{◌≡◌, sym, ◌∙◌}
-use Prim.Native.Nat.{◌-◌}
 use native.Mathlib.Omega.{arith}
 use Rattle.maths.specs.Tables.{column}
 use Rattle.maths.proofs.Sizes.{entry_read}

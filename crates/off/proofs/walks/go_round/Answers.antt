@@ -30,14 +30,13 @@ returns-then-start-eq-SIDE c =
 
 pub walk-requires : goal.walk-requires
 walk-requires c =
-    let low = (goal.at.walk-requires c).After-lowest-start in
-    let a = low.before.before.before in
+    let a = (goal.at.walk-requires c).After-fill_next in
     record {
-      size = table-long (way a) a.fill_next.ensures;
-      low = next_byte_low (steps a) a.fill_next.ensures;
-      inside = start-inside (steps a) a.fill_next.ensures low.lowest-start.ensures;
-      room = a.requires.panel.room;
-      few = a.requires.few;
+      size = table-long (way a) c.fill_next.ensures;
+      low = next_byte_low (steps a) c.fill_next.ensures;
+      inside = start-inside (steps a) c.fill_next.ensures c.lowest-start.ensures;
+      room = c.requires.panel.room;
+      few = c.requires.few;
     }
 
 pub returns : goal.returns

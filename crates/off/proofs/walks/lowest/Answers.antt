@@ -1,8 +1,6 @@
 -- `off::walks::lowest` meets its contract: from no corner below a one goes anywhere, and the first from which one does ends the loop.
-use Prim.Native.Nat.{◌-◌}
 use native.Mathlib.Omega.{arith}
 use borrow.Author.Tests.{lt-ltb, le-ltb}
-use lib.Dec.{ltb}
 use Rattle.off.specs.Exporting.{start_of}
 use Rattle.off.proofs.walks.Steps.{lowest_begin, lowest_here, lowest_on, lowest_none}
 use Rattle.off.proofs.walks.lowest.Goals as goal

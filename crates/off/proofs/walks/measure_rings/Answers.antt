@@ -1,5 +1,5 @@
 -- `off::walks::measure_rings` meets its contract: the panels before j close up, and the length is that of their lines.
-use Prim.Native.Nat.{ℕ, ◌-◌}
+use Prim.Native.Nat.{ℕ}
 use native.Mathlib.Omega.{arith}
 use borrow.Author.Rules.{rules}
 use Rattle.maths.specs.Tables.{column}

@@ -1,5 +1,4 @@
 -- `off::walks::walk` meets its contract: after l steps the corner is the one they lead to, and the first l bytes are those on the way.
-use Prim.Native.Nat.{◌-◌}
 use native.Mathlib.Omega.{arith}
 use Rattle.off.proofs.walks.Steps.{walking_none, walking_more, walking_all}
 use Rattle.off.proofs.walks.walk.Goals as goal

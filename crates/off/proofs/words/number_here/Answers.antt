@@ -6,7 +6,6 @@ use native.Mathlib.Omega.{arith}
 use lib.ListN.{get_or}
 use Rattle.off.specs.Words.{is_digit, number_of, number_here}
 use Rattle.off.proofs.words.Numbers.{digit-from, digit_to, digit_more, digit-none, digit-over, digit-past, pow_more, pow_small}
-use Rattle.off.proofs.words.number_here.Invariants.{Counted}
 use Rattle.off.proofs.words.number_here.Goals as goal
 use Rattle.off.proofs.words.number_here.Goals.{Else-next-at-ge7, Else-not-is_digit}
 
@@ -25,17 +24,16 @@ record Near (n b : ℕ) : Type 0 where
   to : b ≤ 57
   small : n < 1_000_000
 
-near : (c : Else-next-at-ge7) →
-    let turn = c.before.before.before.before.before in Near turn.loop-next.n (get_or turn.args.s.now turn.loop-next.next 0)
+near : (c : Else-next-at-ge7) → Near c.loop-next.n (get_or c.args.s.now c.loop-next.next 0)
 near c =
-    let turn = c.before.before.before.before.before in
-    let args = turn.args in
-    let next = turn.loop-next.next in
+    let args = c.args in
+    let next = c.loop-next.next in
     let fewer : next - args.at ≤ 6 = omega arith in
+    let is = sym c.is_digit.ensures ∙ c.if-not-is_digit.false in
     record {
-      from = digit-from (get_or args.s.now next 0) (digit c.before);
-      to = digit_to (get_or args.s.now next 0) (digit c.before);
-      small = omega (arith, pow_small fewer, turn.loop-next.invariant.small);
+      from = digit-from (get_or args.s.now next 0) is;
+      to = digit_to (get_or args.s.now next 0) is;
+      small = omega (arith, pow_small fewer, c.loop-next.invariant.small);
     }
 
 pub returns-then-not-is_digit : goal.returns-then-not-is_digit
@@ -50,7 +48,7 @@ unfolding number_here
 returns-then-next-at-ge7 c =
     let args = c.args in
     let loop = c.loop-next in
-    digit-past args.s.now loop.next loop.n (loop.next - args.at) (omega arith) (digit (goal.at.returns-then-next-at-ge7 c).Else-not-is_digit) (omega arith) loop.inv.is
+    digit-past args.s.now loop.next loop.n (loop.next - args.at) (omega arith) (digit (goal.at.returns-then-next-at-ge7 c).Else-not-is_digit) (omega arith) loop.invariant.is
 
 pub loop-next-preserved : goal.loop-next-preserved
 loop-next-preserved c =
@@ -60,8 +58,8 @@ loop-next-preserved c =
     record {
       from = omega arith;
       few = omega arith;
-      is = rw one_more_lem (digit_more args.s.now loop.next loop.n (loop.next - args.at) (omega arith) (digit (goal.at.loop-next-preserved c).Else-not-is_digit) ∙ loop.inv.is);
-      small = rw one_more_lem (pow_more loop.n _ (loop.next - args.at) loop.inv.small (omega (arith, (near (goal.at.loop-next-preserved c).Else-next-at-ge7).to)));
+      is = rw one_more_lem (digit_more args.s.now loop.next loop.n (loop.next - args.at) (omega arith) (digit (goal.at.loop-next-preserved c).Else-not-is_digit) ∙ loop.invariant.is);
+      small = rw one_more_lem (pow_more loop.n _ (loop.next - args.at) loop.invariant.small (omega (arith, (near (goal.at.loop-next-preserved c).Else-next-at-ge7).to)));
     }
 
 pub returns : goal.returns

@@ -1,9 +1,7 @@
 -- `skip_blanks` passes blanks alone, so that what is left, once its blanks are skipped, is always the same text.
 use mathlib.Core.Path.{refl, sym, ◌∙◌}
-use Prim.Native.Nat.{◌-◌}
 use native.Mathlib.Omega.{arith}
 use Rattle.off.proofs.words.Texts.{skip_blank, skip_none, skip_over}
-use Rattle.off.proofs.words.skip_blanks.Invariants.{Passed}
 use Rattle.off.proofs.words.skip_blanks.Goals as goal
 
 pub loop-next-init : goal.loop-next-init

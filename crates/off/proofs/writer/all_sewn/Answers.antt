@@ -1,9 +1,7 @@
 -- `off::writer::all_sewn` meets its contract: every seam before i is in some panel, and the first that is not ends the loop.
 use mathlib.Core.Path.{sym, ap, ◌∙◌}
 use mathlib.Core.Bool.{not}
-use Prim.Native.Nat.{◌-◌}
 use native.Mathlib.Omega.{arith}
-use Rattle.maths.specs.Tests.{all}
 use Rattle.grid.proofs.Joined.{passed_none, passed_more, passed_not, passed_all}
 use Rattle.off.proofs.writer.all_sewn.Goals as goal
 

@@ -1,6 +1,5 @@
 -- `off::writer::are_near` meets its contract: every coordinate before i is in range, and the first that is not ends the loop.
 use mathlib.Core.Path.{sym, ◌∙◌}
-use Prim.Native.Nat.{◌-◌}
 use native.Mathlib.Omega.{arith}
 use mir.Syntax.{w32}
 use Rattle.maths.proofs.Sizes.{back}

@@ -1,4 +1,4 @@
--- `off::writer::export_good` meets its contract: the ends that were are.before.before.before.before.before the pattern's, so each answer is one of exporting's.
+-- `off::writer::export_good` meets its contract: the ends that were taken are the pattern's, so each answer is one of exporting's.
 use mathlib.Core.Path.{◌≡◌, sym, ap, ◌∙◌}
 use mathlib.Core.Bool.{true}
 use mathlib.Core.List.{List}
@@ -25,10 +25,10 @@ near c = sym c.are_near.ensures ∙ c.if-not-are_near.false
 
 -- the ends that were taken
 abbrev tails : After-take_ends → List ℕ
-tails c = c.Take-ends.new.1.1.0
+tails c = c.take_ends.new.tails
 
 abbrev heads : After-take_ends → List ℕ
-heads c = c.Take-ends.new.1.1.1.0
+heads c = c.take_ends.new.heads
 
 -- what measuring and putting need
 measurable : (c : After-take_ends) → let a = c.args in Measurable a.c a.m2.now a.list.now (tails c) (heads c)
@@ -36,8 +36,8 @@ measurable c =
     let pre = c.requires in
     record {
       four = pre.four;
-      near = record { size = pre.size; few = pre.corners; near = near c.before.before.before };
-      panels = record { columns = pre.panels; ends = ends_low c.Take-ends.ensures };
+      near = record { size = pre.size; few = pre.corners; near = sym c.are_near.ensures ∙ c.if-not-are_near.false };
+      panels = record { columns = pre.panels; ends = ends_low c.take_ends.ensures };
     }
 
 pub returns-then-not-are_near : goal.returns-then-not-are_near
@@ -46,29 +46,28 @@ returns-then-not-are_near c = rw c.no_text.ensures (too_far _ _ _ (sym c.are_nea
 pub returns-then-length-eq0 : goal.returns-then-length-eq0
 returns-then-length-eq0 c =
     let none = measured-zero _ _ _ _ _ (sym c.text_length-length.ensures ∙ c.if-length-eq0.true) in
-    rw c.no_text-then-length-eq0.ensures (no_plain _ _ _ (near (goal.at.returns-then-length-eq0 c).Else-not-are_near) (sym (plain-taken _ _ _ c.Take-ends.ensures) ∙ none))
+    rw c.no_text-then-length-eq0.ensures (no_plain _ _ _ (near (goal.at.returns-then-length-eq0 c).Else-not-are_near) (sym (plain-taken _ _ _ c.take_ends.ensures) ∙ none))
 
 -- there is a text
-found : (c : Else-length-eq0) → let a = c.args in
-    plain_by a.c a.m2.now (tails c.before.before.before.before.before.before) (heads c.before.before.before.before.before.before) ≡ true
+found : (c : Else-length-eq0) → let a = c.args in plain_by a.c a.m2.now c.take_ends.new.tails c.take_ends.new.heads ≡ true
 found c =
     let a = c.args in
     measured-some a.c a.m2.now _ _ a.list.now (λ z. c.if-length-eq0.false (c.text_length-length.ensures ∙ z))
 
 measured : (c : Else-length-eq0) → let a = c.args in
-    c.text_length-length.result ≡ length (text_by a.c a.m2.now a.list.now (tails c.before.before.before.before.before.before) (heads c.before.before.before.before.before.before))
+    c.text_length-length.result ≡ length (text_by a.c a.m2.now a.list.now c.take_ends.new.tails c.take_ends.new.heads)
 measured c = c.text_length-length.ensures ∙ sym (text-measured _ _ _ _ _ (found c))
 
 -- it is the pattern's
-plain : (c : Else-length-eq0) → is_plain (lent c.before.before.before.before.before.before) ≡ true
-plain c = sym (plain-taken _ _ _ c.Take-ends.ensures) ∙ found c
+plain : (c : Else-length-eq0) → let a = c.args in is_plain (drawn a.c a.m1.now a.m2.now) ≡ true
+plain c = sym (plain-taken _ _ _ c.take_ends.ensures) ∙ found c
 
 same : (c : After-take_ends) → let a = c.args in
     text_by a.c a.m2.now a.list.now (tails c) (heads c) ≡ export_text (lent c) a.list.now
-same c = let a = c.args in text-taken a.c a.m1.now a.m2.now c.Take-ends.ensures a.list.now
+same c = let a = c.args in text-taken a.c a.m1.now a.m2.now c.take_ends.ensures a.list.now
 
-long : (c : Else-length-eq0) → c.text_length-length.result ≡ length (export_text (lent c.before.before.before.before.before.before) c.args.list.now)
-long c = measured c ∙ ap length (same c.before.before.before.before.before.before)
+long : (c : Else-length-eq0) → let a = c.args in c.text_length-length.result ≡ length (export_text (drawn a.c a.m1.now a.m2.now) a.list.now)
+long c = let a = c.args in measured c ∙ ap length (text-taken a.c a.m1.now a.m2.now c.take_ends.ensures a.list.now)
 
 pub returns-then-out-length : goal.returns-then-out-length
 returns-then-out-length c =
