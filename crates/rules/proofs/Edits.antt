@@ -2,6 +2,7 @@ pub mod Fitted
 pub mod Carries
 pub mod Makes
 pub mod Kills
+pub mod SplitRows
 pub mod Splits
 pub mod Merges
 pub mod Flips

@@ -1,2 +1,3 @@
 pub mod Stored
+pub mod FiveTests
 pub mod Tested

@@ -3,17 +3,11 @@ use mathlib.Core.Path.{◌≡◌, sym, ◌∙◌}
 use native.Mathlib.Omega.{arith}
 use borrow.Author.Rules.{rules}
 use lib.ListN.{length}
-use Rattle.rules.specs.Refusals.{accepted}
 use Rattle.rules.specs.Lending.{as_lent}
-use Rattle.good.specs.Tested.{tested}
 use Rattle.good.proofs.Passing.{held}
 use Rattle.engine.proofs.Answers.{lone_read, lone_place, apply_not-good, apply_faulty, apply_done}
 use Rattle.engine.proofs.apply_operator.Goals as goal
 use Rattle.engine.proofs.apply_operator.Goals.{Else-refusal-ne-ACCEPTED}
-
--- it passed its test
-passed : (c : Else-refusal-ne-ACCEPTED) → tested (as_lent c.args.c c.args.m1.now c.args.m2.now c.args.m3.now) ≡ accepted
-passed c = sym c.refusal_of_pattern-refusal.ensures ∙ c.if-refusal-ne-ACCEPTED.false
 
 pub returns-then-refusal-ne-ACCEPTED : goal.returns-then-refusal-ne-ACCEPTED
 returns-then-refusal-ne-ACCEPTED c = apply_not-good _ _ c.refusal_of_pattern-refusal.ensures c.if-refusal-ne-ACCEPTED.true
@@ -22,7 +16,7 @@ pub apply-done-requires : goal.apply-done-requires
 apply-done-requires c =
     let four : length c.args.c.n ≡ 4 = search rules in
     record {
-      held = held (as_lent c.args.c c.args.m1.now c.args.m2.now c.args.m3.now) four (passed (goal.at.apply-done-requires c).Else-refusal-ne-ACCEPTED);
+      held = held (as_lent c.args.c c.args.m1.now c.args.m2.now c.args.m3.now) four (sym c.refusal_of_pattern-refusal.ensures ∙ c.if-refusal-ne-ACCEPTED.false);
       read_from = lone_read (sym c.form_of_operator.ensures ∙ c.in-Decoded.is);
     }
 
@@ -32,8 +26,8 @@ overflow_cast-result c =
 
 pub returns-in-Bad : goal.returns-in-Bad
 returns-in-Bad c =
-    apply_faulty _ _ (passed (goal.at.returns-in-Bad c).Else-refusal-ne-ACCEPTED) (sym c.form_of_operator.ensures ∙ c.in-Bad.is) c.refusal_of.ensures c.place_of.ensures
+    apply_faulty _ _ (sym c.refusal_of_pattern-refusal.ensures ∙ c.if-refusal-ne-ACCEPTED.false) (sym c.form_of_operator.ensures ∙ c.in-Bad.is) c.refusal_of.ensures c.place_of.ensures
 
 pub returns-in-Decoded : goal.returns-in-Decoded
 returns-in-Decoded c =
-    apply_done _ _ (passed (goal.at.returns-in-Decoded c).Else-refusal-ne-ACCEPTED) (sym c.form_of_operator.ensures ∙ c.in-Decoded.is) c.apply-done.ensures
+    apply_done _ _ (sym c.refusal_of_pattern-refusal.ensures ∙ c.if-refusal-ne-ACCEPTED.false) (sym c.form_of_operator.ensures ∙ c.in-Decoded.is) c.apply-done.ensures

@@ -1,38 +1,24 @@
 -- Split: the layers still fit, and chains are carried.
-use mathlib.Core.Path.{◌≡◌, refl, sym, ◌∙◌, ap, fun_ext}
+use mathlib.Core.Path.{◌≡◌, refl, sym, ◌∙◌}
 use mathlib.Core.Logic.{◌≢◌}
 use mathlib.Core.Bool.{Bool}
 use Prim.Native.Nat.{ℕ, suc, ◌<◌, ◌≤◌}
 use native.Mathlib.Omega.{arith}
-use borrow.Author.Tests.{ne_eqb}
-use lib.IntN.{ℤ, pos, negsuc, neg_ℤ, ◌+ℤ◌, ◌-ℤ◌, ◌*ℤ◌, +ℤ_idl, *ℤ_comm}
+use lib.IntN.{pos, ◌+ℤ◌, ◌*ℤ◌}
 use Rattle.maths.specs.Sums.{dot, δ}
 use Rattle.maths.proofs.Integers.{*ℤ_distr_r, *ℤ_distr_l, sorted, ints}
-use Rattle.maths.proofs.Cases.{eqb_same, eq_or}
+use Rattle.maths.proofs.Cases.{eq_or}
 use Rattle.maths.proofs.Sums.{δ_same, δ_no}
 use Rattle.maths.proofs.Dots.{dot_+l, dot_+r, dot_*l, dot_*r, dot_neg_l, dot_neg_r, dot-δ_l, dot-δ_r, dot_0_l, dot_assoc}
 use Rattle.rules.specs.Complex.{Layer, Complex, Chain}
 use Rattle.rules.specs.Edits.{Step, kept, layers, put, boundary, part, divider, halves, repeated, split}
-use Rattle.rules.proofs.Layers.Changes.{put_same, put_no, put_is, put-zero, part-zero, rest-is}
-use Rattle.rules.proofs.Layers.Frame.{same_layer, Fit, Frame, columns-at}
+use Rattle.rules.proofs.Layers.Changes.{put_no, put-zero, part-zero}
+use Rattle.rules.proofs.Layers.Frame.{Fit, Frame, columns-at}
 use Rattle.rules.proofs.Accepting.Allowed.{CanSplit}
+use Rattle.rules.proofs.Edits.SplitRows.{put_front, halves_are, repeated_is}
 use Rattle.rules.proofs.Edits.Fitted.{fitted_layers}
 use Rattle.rules.proofs.Edits.Carries.{Carries, Keeps, Maps, kept_keeps, at3_carries}
 use Rattle.rules.proofs.Edits.Makes.{added, added_is, added_ground, added_below, added_keeps, added_maps}
-
--- `put_is` with the factors in the other order
-put_front : (t : ℕ) (z : ℤ) (c : Chain) → c t ≡ pos 0 → put t z c ≡ (λ i. c i +ℤ δ t i *ℤ z)
-put_front t z c h = put_is t z c h ∙ fun_ext λ i. rw (*ℤ_comm z (δ t i))
-
--- z more at a and w more at b is a sum
-put_two : (a b : ℕ) (c : Chain) (z w : ℤ) {x y : ℤ} → a ≢ b → x ≡ c a +ℤ z → y ≡ c b +ℤ w → (j : ℕ) →
-    put a x (put b y c) j ≡ c j +ℤ (z *ℤ δ a j +ℤ w *ℤ δ b j)
-put_two a b c z w ne p q j = eq_or j a
-    (λ e. rw (e, put_same, p, δ_same, δ_no b a ne) (simp ints))
-    (λ e. rw (put_no a _ (put b _ c) j e, δ_no a j e)
-    (eq_or j b
-    (λ f. rw (f, put_same, q, δ_same) (simp ints))
-    (λ f. rw (put_no b _ c j f, δ_no b j f) (simp ints))))
 
 pub boundary_0 : (A : Layer) (c : Chain) (r : ℕ) → ((j : ℕ) → A.d r j ≡ pos 0) → boundary A c r ≡ pos 0
 unfolding boundary
@@ -76,26 +62,13 @@ module _ (s : ℕ) (p : ℕ → Bool) (L D U : Layer) (R : Room s L D U) where
   other : s ≢ D.n
   other = omega arith
 
-  -- each of the three is the old layer and a column times a row
-  halves-is : halves s p L D ≡ record { n = suc D.n; d = λ i j. D.d i j +ℤ ((δ L.n i -ℤ part p (λ i. D.d i s) i) *ℤ δ s j +ℤ (neg_ℤ (δ L.n i) +ℤ part p (λ i. D.d i s) i) *ℤ δ D.n j) }
-  unfolding halves
-  halves-is = same_layer refl λ i j.
-      let v : Chain = λ i. D.d i s in
-      eq_or i L.n
-      (λ e. rw (e, eqb_same, δ_same, part-zero p v L.n (row_0 s), row_0 j) (put_two s D.n (λ j. pos 0) (pos 1) (negsuc 0) other refl refl j))
-      (λ e. rw (ne_eqb i L.n e, δ_no L.n i e, +ℤ_idl, +ℤ_idl) (put_two s D.n (D.d i) (neg_ℤ (part p v i)) (part p v i) other (rest-is p v i) (rw column_0 (simp ints)) j))
-
-  repeated-is : repeated s D U ≡ record { n = U.n; d = λ i j. U.d i j +ℤ δ D.n i *ℤ U.d s j }
-  unfolding repeated
-  repeated-is = same_layer refl λ i j. ap (λ f. f i) (put_front D.n (U.d s j) (λ i. U.d i j) (above_0 j))
-
   divider-is : (r i : ℕ) → (divider s p L D).d r i ≡ L.d r i +ℤ dot 96 (λ i. L.d r i) (λ i. part p (λ i. D.d i s) i) *ℤ δ L.n i
   unfolding divider boundary
   divider-is = added_is (border s p L D) L R.columns R.room-below
 
   fit_halves : Fit (divider s p L D) (halves s p L D)
   unfolding divider
-  fit_halves = rw halves-is (record {
+  fit_halves = rw (halves_are s p L D row_0 column_0 other) (record {
     few = R.room;
     rows = λ i j h.
         let z : (j : ℕ) → D.d i j ≡ pos 0 = λ j. R.here.rows i j (omega arith) in
@@ -112,7 +85,7 @@ module _ (s : ℕ) (p : ℕ → Bool) (L D U : Layer) (R : Room s L D U) where
   })
 
   fit_repeated : Fit (halves s p L D) (repeated s D U)
-  fit_repeated = rw (halves-is, repeated-is) (record {
+  fit_repeated = rw (halves_are s p L D row_0 column_0 other, repeated_is s D U above_0) (record {
     few = R.above.few;
     rows = λ i j h.
         let z : U.d i j ≡ pos 0 = R.above.rows i j (omega arith) in
@@ -127,7 +100,7 @@ module _ (s : ℕ) (p : ℕ → Bool) (L D U : Layer) (R : Room s L D U) where
   })
 
   fit_over : (W : Layer) → Fit U W → Fit (repeated s D U) W
-  fit_over W F = rw repeated-is (record { few = F.few; rows = F.rows; columns = F.columns; null = λ r j. simp (dot_+l, dot_*l, F.null, ints) })
+  fit_over W F = rw (repeated_is s D U above_0) (record { few = F.few; rows = F.rows; columns = F.columns; null = λ r j. simp (dot_+l, dot_*l, F.null, ints) })
 
   halves_keeps : Keeps D (halved s p L D)
   unfolding halves
@@ -145,12 +118,12 @@ module _ (s : ℕ) (p : ℕ → Bool) (L D U : Layer) (R : Room s L D U) where
       let l : s < 96 = omega arith in
       let l' : D.n < 96 = R.room in
       let e : D.n ≢ s = omega arith in
-      rw (put-zero L.n (boundary D c) (boundary_0 D c L.n row_0), put_front D.n (c s) c z, halves-is)
+      rw (put-zero L.n (boundary D c) (boundary_0 D c L.n row_0), put_front D.n (c s) c z, halves_are s p L D row_0 column_0 other)
       (simp (dot_+l, dot_*l, dot_+r, dot_*r, dot_neg_l, dot-δ_r, dot-δ_l, δ_same, δ_no, z, column_0, ints) (simp (*ℤ_distr_r, *ℤ_distr_l, sorted, ints)))
 
   maps_repeated : Maps (halved s p L D) U (kept (repeated s D U))
   unfolding boundary
-  maps_repeated c w r = rw (put_front D.n (boundary U c s) (boundary U c) (boundary_0 U c D.n above_0), repeated-is) (simp (dot_+l, dot_*l))
+  maps_repeated c w r = rw (put_front D.n (boundary U c s) (boundary U c) (boundary_0 U c D.n above_0), repeated_is s D U above_0) (simp (dot_+l, dot_*l))
 
 module _ {m s : ℕ} {p : ℕ → Bool} {X : Complex} (F : Frame X) (C : CanSplit m s p X) where
   abbrev L : Layer

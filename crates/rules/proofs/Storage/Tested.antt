@@ -1,22 +1,23 @@
 -- The test of good is true exactly where the statement holds.
 use mathlib.Core.Path.{◌≡◌, refl, ap}
 use mathlib.Core.Logic.{◌≢◌}
-use mathlib.Core.Bool.{Bool, true, not, cond, ◌&&◌}
+use mathlib.Core.Bool.{true, not, cond, ◌&&◌}
 use Prim.Native.Nat.{ℕ, zero, suc, ◌<◌, ◌≤◌}
 use native.Mathlib.Omega.{arith}
 use borrow.Author.Tests.{lt-ltb, le-ltb, leb-true, le-leb, not-true}
 use lib.Dec.{ltb, leb}
 use lib.IntN.{pos, nat_abs}
-use Rattle.maths.specs.Tests.{is_zero, is_unit, all}
+use Rattle.maths.specs.Tests.{is_zero, is_unit}
 use Rattle.maths.specs.Sums.{dot}
-use Rattle.maths.proofs.Cases.{lt_or, and_left, and_right, and_both}
+use Rattle.maths.proofs.Cases.{lt_or}
 use Rattle.maths.proofs.Tests.{zero_is, zero-true, unit-true, unit-is, all-at, all_of}
 use Rattle.maths.proofs.Dots.{dot_0_l, dot_0_r}
 use Rattle.maths.proofs.Tables.{in_or_out, entries-out}
 use Rattle.rules.specs.Complex.{Pattern, Layer, Complex, bare, complex}
-use Rattle.rules.specs.Good.{Good, one_each, all_zero, in_place, closes, is_good}
+use Rattle.rules.specs.Good.{Good, one_each, in_place, is_good}
 use Rattle.rules.proofs.Layers.Frame.{Fit, good_of, face_below, within-rows}
 use Rattle.rules.proofs.Layers.Judged.{one_each_true, one_each_is, some_entry, has_face, closes_at, closes-is}
+use Rattle.rules.proofs.Storage.FiveTests.{Tests, tests_of, tests_are, closed_at, all_closed}
 
 -- what is so of every complex that comes from lists: no faces below corners, nothing above blocks, nothing outside of 96 by 96
 pub record Bounded (X : Complex) : Type 0 where
@@ -79,29 +80,6 @@ module _ (rows : ℕ) (A : Layer) where
           (λ c. rw (lt-ltb i rows r, le-ltb j A.n c, (P i j).column c) zero_is))
           (λ r. rw (le-ltb i rows r, (P i j).row r) zero_is)
 
--- the five tests that `is_good` joins
-record Tests (X : Complex) : Type 0 where
-  few : all 4 (λ k. leb (X k).n 96) ≡ true
-  place : all 3 (λ k. in_place (X k).n (X (suc k))) ≡ true
-  seams : all (X 1).n (λ j. one_each (λ i. (X 1).d i j)) ≡ true
-  faces : all 2 (λ k. all (X (suc (suc k))).n (λ j. not (all_zero (λ i. (X (suc (suc k))).d i j)))) ≡ true
-  closed : all 2 (λ k. all (X (suc (suc k))).n (λ j. closes (X k).n (X (suc k)) (λ i. (X (suc (suc k))).d i j))) ≡ true
-
-five : {a b c d e : Bool} → a && b && c && d && e ≡ true → (a ≡ true) × (b ≡ true) × (c ≡ true) × (d ≡ true) × (e ≡ true)
-five {a} {b} {c} {d} {e} t =
-    let abcd = and_left (a && b && c && d) e t in
-    let abc = and_left (a && b && c) d abcd in
-    let ab = and_left (a && b) c abc in
-    (and_left a b ab, and_right a b ab, and_right (a && b) c abc, and_right (a && b && c) d abcd, and_right (a && b && c && d) e t)
-
-tests_of : {X : Complex} → is_good X ≡ true → Tests X
-unfolding is_good
-tests_of t = let f = five t in record { few = f.0; place = f.1; seams = f.2; faces = f.3; closed = f.4 }
-
-tests_are : {X : Complex} → Tests X → is_good X ≡ true
-unfolding is_good
-tests_are T = and_both (and_both (and_both (and_both T.few T.place) T.seams) T.faces) T.closed
-
 module _ {X : Complex} (B : Bounded X) (T : Tests X) where
   few-at : (k : ℕ) → (X k).n ≤ 96
   few-at k = lt_or k 4
@@ -130,7 +108,7 @@ module _ {X : Complex} (B : Bounded X) (T : Tests X) where
       (λ c. lt_or r (X k).n
       (λ l. lt_or k 2
       (λ h. closes_at (λ i. (X (suc (suc k))).d i j) (X k).n (X (suc k)) (few-at (suc k)) (λ i. (placed (suc k) i j).row)
-      (all-at (X (suc (suc k))).n _ (all-at 2 _ T.closed k h) j c) r l)
+      (all-at (X (suc (suc k))).n _ (closed_at T k h) j c) r l)
       (λ h. dot_0_r 96 _ (λ i q. rw (B.above (suc (suc k)) (omega arith)))))
       (λ l. dot_0_l 96 _ (λ i q. (placed k r i).row l)))
       (λ c. dot_0_r 96 _ (λ i q. (placed (suc k) i j).column c))
@@ -158,6 +136,6 @@ good-is {X} G = tests_are (record {
   seams = all_of (X 1).n (λ j h. one_each_is (λ i. (X 1).d i j) (G.seams j h));
   faces = all_of 2 (λ k h. all_of (X (suc (suc k))).n (λ j l. let f = G.faces k j l in
       ap not (has_face (λ i. (X (suc (suc k))).d i j) f.0 (face_below (within-rows G (suc k) j) f.0 f.1) f.1)));
-  closed = all_of 2 (λ k h. all_of (X (suc (suc k))).n (λ j l.
+  closed = all_closed X (λ k h. all_of (X (suc (suc k))).n (λ j l.
       closes-is (λ i. (X (suc (suc k))).d i j) (X k).n (X (suc k)) (G.few (suc k)) (λ i. G.rows (suc k) i j) (λ r. G.null k r j)));
 })

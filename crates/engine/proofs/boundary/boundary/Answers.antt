@@ -4,11 +4,9 @@ use mathlib.Core.Bool.{true, ◌&&◌}
 use Prim.Native.Nat.{◌≤◌}
 use native.Mathlib.Omega.{arith}
 use borrow.Author.Rules.{rules}
-use Rattle.rules.specs.Refusals.{accepted}
 use Rattle.rules.specs.Form.{within}
 use Rattle.rules.specs.Calls.{sized_chain}
 use Rattle.rules.specs.Lending.{as_lent}
-use Rattle.good.specs.Tested.{tested}
 use Rattle.engine.proofs.FirstTests.{chain-long}
 use Rattle.engine.proofs.Dimensions.{at-most_three}
 use Rattle.engine.proofs.Boundaries.{boundary-short, boundary-not-good, boundary-form, boundary-chain, factors, boundary-done}
@@ -18,10 +16,6 @@ use Rattle.engine.proofs.boundary.boundary.Goals.{Else-not-chain-out, Else-not-d
 -- the chains are 96 long
 sized : (c : Else-not-chain-out) → sized_chain c.args.chain.now && sized_chain c.args.out.now ≡ true
 sized c = c.if-not-chain-out.false
-
--- the pattern passed its test
-passed : (c : Else-refusal-ne-ACCEPTED) → tested (as_lent c.args.c c.args.m1.now c.args.m2.now c.args.m3.now) ≡ accepted
-passed c = sym c.refusal_of_pattern-refusal.ensures ∙ c.if-refusal-ne-ACCEPTED.false
 
 -- the dimension is 1, 2 or 3
 ranged : (c : Else-not-d) → within 1 3 c.args.d ≡ true
@@ -38,7 +32,7 @@ returns-then-refusal-ne-ACCEPTED c = boundary-not-good _ _ _ _ (sized (goal.at.r
 
 pub returns-then-not-d : goal.returns-then-not-d
 returns-then-not-d c =
-    boundary-form (as_lent c.args.c c.args.m1.now c.args.m2.now c.args.m3.now) c.args.d _ _ (sized (goal.at.returns-then-not-d c).Else-not-chain-out) (passed (goal.at.returns-then-not-d c).Else-refusal-ne-ACCEPTED) c.if-not-d.true
+    boundary-form (as_lent c.args.c c.args.m1.now c.args.m2.now c.args.m3.now) c.args.d _ _ (sized (goal.at.returns-then-not-d c).Else-not-chain-out) (sym c.refusal_of_pattern-refusal.ensures ∙ c.if-refusal-ne-ACCEPTED.false) c.if-not-d.true
 
 pub bounds-n-d : goal.bounds-n-d
 bounds-n-d c = omega (arith, most (goal.at.bounds-n-d c).Else-not-d)
@@ -49,15 +43,15 @@ is_chain-requires c =
 
 pub returns-then-not-is_chain : goal.returns-then-not-is_chain
 returns-then-not-is_chain c =
-    boundary-chain (as_lent c.args.c c.args.m1.now c.args.m2.now c.args.m3.now) c.args.d c.args.chain.now c.args.out.now (sized (goal.at.returns-then-not-is_chain c).Else-not-chain-out) (passed (goal.at.returns-then-not-is_chain c).Else-refusal-ne-ACCEPTED) (ranged (goal.at.returns-then-not-is_chain c).Else-not-d)
+    boundary-chain (as_lent c.args.c c.args.m1.now c.args.m2.now c.args.m3.now) c.args.d c.args.chain.now c.args.out.now (sized (goal.at.returns-then-not-is_chain c).Else-not-chain-out) (sym c.refusal_of_pattern-refusal.ensures ∙ c.if-refusal-ne-ACCEPTED.false) (ranged (goal.at.returns-then-not-is_chain c).Else-not-d)
     (sym c.is_chain.ensures ∙ c.if-not-is_chain.true)
 
 pub multiply_at-requires : goal.multiply_at-requires
 multiply_at-requires c =
-    factors (as_lent c.args.c c.args.m1.now c.args.m2.now c.args.m3.now) c.args.d c.args.chain.now c.args.out.now (sized (goal.at.multiply_at-requires c).Else-not-chain-out) (passed (goal.at.multiply_at-requires c).Else-refusal-ne-ACCEPTED) (ranged (goal.at.multiply_at-requires c).Else-not-d)
+    factors (as_lent c.args.c c.args.m1.now c.args.m2.now c.args.m3.now) c.args.d c.args.chain.now c.args.out.now (sized (goal.at.multiply_at-requires c).Else-not-chain-out) (sym c.refusal_of_pattern-refusal.ensures ∙ c.if-refusal-ne-ACCEPTED.false) (ranged (goal.at.multiply_at-requires c).Else-not-d)
     (sym c.is_chain.ensures ∙ c.if-not-is_chain.false) (search rules)
 
 pub returns : goal.returns
 returns c =
-    boundary-done (as_lent c.args.c c.args.m1.now c.args.m2.now c.args.m3.now) c.args.d c.args.chain.now c.args.out.now (sized (goal.at.returns c).Else-not-chain-out) (passed (goal.at.returns c).Else-refusal-ne-ACCEPTED) (ranged (goal.at.returns c).Else-not-d)
+    boundary-done (as_lent c.args.c c.args.m1.now c.args.m2.now c.args.m3.now) c.args.d c.args.chain.now c.args.out.now (sized (goal.at.returns c).Else-not-chain-out) (sym c.refusal_of_pattern-refusal.ensures ∙ c.if-refusal-ne-ACCEPTED.false) (ranged (goal.at.returns c).Else-not-d)
     (sym c.is_chain.ensures ∙ c.if-not-is_chain.false) c.multiply_at.ensures
