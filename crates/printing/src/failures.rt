@@ -1,7 +1,8 @@
 // Reads and writes that fail, told on standard error in the system's words.
-use std::fmt;
+ghost use Rattle.std.specs.Prelude.{◌≤◌};
+
 use std::fmt::Write;
-use std::io;
+use std::{fmt, io};
 
 const MOST: usize = 128;
 

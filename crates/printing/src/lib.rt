@@ -1,5 +1,6 @@
 // The printed result of one input, written to standard output; reads and writes that fail.
 #![tactic(auto)]
+
 ghost use Rattle.std.specs.Prelude.{◌≤◌, length};
 ghost use Rattle.rules.specs.Complex.{Sized, counts_of, empty};
 ghost use Rattle.rules.specs.Lending.{as_lent};
