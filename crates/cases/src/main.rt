@@ -1,6 +1,7 @@
 // The program on many inputs, at most 65,536: each is a length in three bytes, low first, and that many bytes, at most 65,536. What is printed for one
 // follows what is printed for the one before, and a greater length ends the run.
 #![tactic(auto)]
+
 ghost use Rattle.std.specs.Prelude.{◌≤◌, length};
 ghost use Rattle.rules.specs.Complex.{Sized, counts_of, empty};
 ghost use Rattle.rules.specs.Lending.{as_lent};
@@ -53,7 +54,11 @@ fn main(rt: HostRuntime) {
     let mut m3 = [0i8; SIZE];
     let mut out = [0u8; 38400];
     let mut left: u32 = 65536;
-    while 0 < left && print_next(&rt, &mut from, &mut input, &mut m1, &mut m2, &mut m3, &mut out) {
+    while 0 < left
+        && print_next(
+            &rt, &mut from, &mut input, &mut m1, &mut m2, &mut m3, &mut out,
+        )
+    {
         left -= 1;
     }
 }

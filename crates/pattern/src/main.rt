@@ -1,5 +1,6 @@
 // The program: a mesh followed by a script is read from standard input, and the printed result is written.
 #![tactic(auto)]
+
 use maths::SIZE;
 use printing::{print, read_input};
 
