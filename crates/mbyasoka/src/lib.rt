@@ -1,5 +1,6 @@
 // The engine's calls as they are lent to C and Rust: numbers, arrays of four counts, and slices. The crate `mbyasoka_c` exports them.
 #![tactic(auto)]
+
 ghost use Rattle.std.specs.Prelude.{◌≡◌};
 ghost use Rattle.rules.specs.Complex.{counts_of, empty};
 ghost use Rattle.rules.specs.Calls.{read_call, write_call, euler_call, apply_call, run_call, given, boundary_call, carry_call};
@@ -65,13 +66,7 @@ pub fn mbyasoka_write_mesh(
 }
 
 // The Euler number of the pattern: the refusal, and the number.
-pub fn mbyasoka_euler(
-    counts: &[u8; 4],
-    m1: &[i8],
-    m2: &[i8],
-    m3: &[i8],
-    number: &mut i16,
-) -> u8
+pub fn mbyasoka_euler(counts: &[u8; 4], m1: &[i8], m2: &[i8], m3: &[i8], number: &mut i16) -> u8
     ensures { record { number = number.new; refusal = result } ≡ euler_call (pattern_lent counts.now m1.now m2.now m3.now) }
 {
     let c = Counts { n: *counts };

@@ -1,7 +1,6 @@
 -- `printing::run::run_input` meets its contract: a refused mesh ends it, and one that was taken has its script run.
 use mathlib.Core.Path.{◌≡◌}
 use mathlib.Core.Bool.{true}
-use Prim.Native.Nat.{◌≤◌}
 use native.Mathlib.Omega.{arith}
 use mir.Syntax.{w16}
 use borrow.Author.Rules.{part_to_end, rules}
@@ -11,9 +10,9 @@ use Rattle.rules.specs.Calls.{sized}
 use Rattle.rules.specs.Lending.{as_lent}
 use Rattle.rules.proofs.Storage.Stored.{sized-is}
 use Rattle.printing.specs.Input.{run_input}
-use Rattle.printing.proofs.Running.{mesh-refused, mesh-taken, script-ran, MeshTaken}
+use Rattle.printing.proofs.Running.{mesh-refused, mesh-taken, script-ran}
 use Rattle.printing.proofs.run.run_input.Goals as goal
-use Rattle.printing.proofs.run.run_input.Goals.{After-read_mesh-read, Else-read-ne-ACCEPTED}
+use Rattle.printing.proofs.run.run_input.Goals.{After-read_mesh-read}
 
 -- the matrices at entry
 abbrev entry : After-read_mesh-read → Pattern
@@ -30,12 +29,12 @@ returns-then-read-ne-ACCEPTED c =
 pub slice_bounds-run_script-count : goal.slice_bounds-run_script-count
 slice_bounds-run_script-count c =
     let call = (goal.at.slice_bounds-run_script-count c).After-read_mesh-read in
-    (mesh-taken c.args.s.now (entry call) (long call) c.read_mesh-read.ensures c.if-read-ne-ACCEPTED.false).inside
+    omega (arith, (mesh-taken c.args.s.now (entry call) (long call) c.read_mesh-read.ensures c.if-read-ne-ACCEPTED.false).inside)
 
 pub slice_bounds-run_script-start : goal.slice_bounds-run_script-start
 slice_bounds-run_script-start c =
     let call = (goal.at.slice_bounds-run_script-start c).After-read_mesh-read in
-    (mesh-taken c.args.s.now (entry call) (long call) c.read_mesh-read.ensures c.if-read-ne-ACCEPTED.false).inside
+    omega (arith, (mesh-taken c.args.s.now (entry call) (long call) c.read_mesh-read.ensures c.if-read-ne-ACCEPTED.false).inside)
 
 pub returns : goal.returns
 returns c =
