@@ -1,5 +1,6 @@
 // The engine for C and Rust, a thin layer over the crate `mbyasoka`: numbers, arrays of four counts, and slices, each a pointer and then a length.
 #![tactic(auto)]
+
 ghost use Rattle.std.specs.Prelude.{◌≡◌};
 ghost use Rattle.rules.specs.Complex.{counts_of, empty};
 ghost use Rattle.rules.specs.Calls.{read_call, write_call, euler_call, apply_call, run_call, given, boundary_call, carry_call};
