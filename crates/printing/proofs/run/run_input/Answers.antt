@@ -3,13 +3,12 @@ use mathlib.Core.Path.{◌≡◌}
 use mathlib.Core.Bool.{true}
 use native.Mathlib.Omega.{arith}
 use mir.Syntax.{w16}
-use borrow.Author.Rules.{part_to_end, rules}
+use borrow.Author.Rules.{part_to_end}
 use Rattle.maths.proofs.Sizes.{back}
 use Rattle.rules.specs.Complex.{Pattern, counts_of, empty}
 use Rattle.rules.specs.Calls.{sized}
 use Rattle.rules.specs.Lending.{as_lent}
 use Rattle.rules.proofs.Storage.Stored.{sized-is}
-use Rattle.printing.specs.Input.{run_input}
 use Rattle.printing.proofs.Running.{mesh-refused, mesh-taken, script-ran}
 use Rattle.printing.proofs.run.run_input.Goals as goal
 use Rattle.printing.proofs.run.run_input.Goals.{After-read_mesh-read}
