@@ -3,15 +3,18 @@
 import re
 from dataclasses import dataclass
 
+# what the proof of a function is called, in a folder that has the function's name
+PROOFS = ('Answers', 'Invariants', 'Proof')
 MARKS = r'(?:(?:unfoldable|abbrev|axiom|pub)\s+)*'
 HEAD = re.compile(MARKS + r'(?:(?:record|data|ruleset)\s+(\S+)|(\S+)(?:\s+\{[^}]*\})?\s+:(?:\s|$))')
 # what names nothing; `use` and `mod` lines stand above every item
 UNNAMED = re.compile(r'(?:open|infix[lr]?)\s')
 BLOCK = re.compile(r'module\s|mutual$')
 
+CLAUSE = re.compile(r'\b(?:requires|ensures)\*?(?:\s+\w+)?\s*$')
 CODE = re.compile(
     r'(?:#\[[^\]]*\]\s*)*(?P<seen>pub(?:\(\w+\))?\s+)?(?:extern\s+"[^"]*"\s+)?(?:const\s+(?=fn))?'
-    r'\b(?P<kind>fn|struct|enum|const|impl|mod)\s+(?P<name>\w+)'
+    r'\b(?P<kind>fn|struct|enum|const|impl|mod)\s+(?:[\w:]+\s+for\s+)?(?P<name>\w+)'
 )
 OPENER = re.compile(r'[(\[{;]')
 
@@ -94,7 +97,7 @@ def parts(mask, at, kind):
         at = OPENER.search(mask, at).start()
         if mask[at] == ';':
             return at, at + 1
-        if mask[at] == '{' and kind != 'const' and not mask[:at].rstrip().endswith(('requires', 'ensures')):
+        if mask[at] == '{' and kind != 'const' and not CLAUSE.search(mask, 0, at):
             return at, closing(mask, at)
         at = closing(mask, at)
 

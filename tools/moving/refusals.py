@@ -1,17 +1,18 @@
 """What the checker said of each must-fail edit, and what docs/PROOFS.md says of it.
 
 A row of a table names edits, `crate/edit`, before its last cell; the crate need not be said again. The last cell begins with what refuses
-them: one name for each edit, in that order, or one for all. Where the function has no proof file, it also says `no proof`.
+them: one name for each edit, in that order, or one for all. Where no proof file answers the goal, it also says `no proof`.
 """
 
 import re
 from dataclasses import dataclass
 from pathlib import PurePosixPath
 
-from .items import antt_items, rattle_items
+from .items import PROOFS, antt_items, rattle_items
 
-ERROR = re.compile(r'^(\S+):(\d+):\d+: error: (?!.*so this cannot be checked)', re.M)
-NOTE = re.compile(r'^note: (\S+):(\d+):\d+: ', re.M)
+# what `rt ci` and `rt must-fail` say of an edit that was refused, with the place of the first fault; but a proof that only names what the
+# edit took away shows nothing of a contract
+REFUSED = re.compile(r'^rt: must-fail (\w+)/([\w.-]+)\.edit: refused, as it must be(?! \(only because a proof file).*?: (?:note: )?(?:\./)?(\S+?):(\d+):\d+:', re.M)
 WORD = re.compile(r'`([^`]+)`')
 EDIT = re.compile(r'(?:(\w+)/(?:must-fail/)?)?(\w+)')
 NAMES = re.compile(r'`[^`]+`(?:, `[^`]+`)*')
@@ -27,7 +28,7 @@ class Place:
 
     @property
     def unproved(self):
-        """The function has no proof file, and the checker's own search found no proof."""
+        """No proof file answers the goal, and the checker's own search found no proof."""
         return self.file.startswith('src/')
 
 
@@ -38,7 +39,7 @@ def edits(crates):
 
 def name_at(folder, file, line):
     path = PurePosixPath(file)
-    if path.name == 'Proof.antt':
+    if path.stem in PROOFS:
         return path.parent.name
     if not (folder / file).is_file():
         return file
@@ -46,20 +47,12 @@ def name_at(folder, file, line):
     return next((item.name for item in read((folder / file).read_text()) if item.first <= line <= item.last), file)
 
 
-def place(room, crate, edit):
-    """The first fault in the log of an edit that `rt must-fail` found refused, or None.
-
-    An error that only says that something else is not proved is passed over: with `first at` rt may name such a one.
-    """
-    folder, verdict = room / crate / edit, room / crate / f'{edit}.res'
-    if not verdict.is_file() or verdict.read_text().strip() != 'refused':
-        return None
-    log = (folder / '.log').read_text()
-    found = ERROR.search(log) or NOTE.search(log)
-    if not found:
-        return None
-    file, line = found[1].rpartition(f'/must-fail/{crate}/{edit}/')[2], int(found[2])
-    return Place(name_at(folder, file, line), file, line)
+def places(crates, log):
+    """The first fault of each edit that the log tells as refused. An edit changes no number of a line, so the crate's own files have its name."""
+    found = {}
+    for crate, edit, file, line in REFUSED.findall(log):
+        found[crate, edit] = Place(name_at(crates / crate, file, int(line)), file, int(line))
+    return found
 
 
 def edits_in(cells, known):
@@ -96,7 +89,7 @@ def rows(text, known):
 def faults(found, told):
     """What is not so in the rows of one edit."""
     if found is None:
-        return ['no log says where it is refused: run `rt must-fail`']
+        return ['the log does not say where it is refused']
     if not told:
         return ['no row says what refuses it']
     wrong = []
@@ -108,15 +101,16 @@ def faults(found, told):
     return wrong
 
 
-def report(root, only=()):
+def report(root, log, only=()):
     """A line for each edit, and how many have a fault."""
     known = edits(root / 'crates')
     told = rows((root / 'docs/PROOFS.md').read_text(), known)
+    refused = places(root / 'crates', log)
     lines, bad = [], 0
     for crate, edit in known:
         if only and crate not in only:
             continue
-        found = place(root / 'target/must-fail', crate, edit)
+        found = refused.get((crate, edit))
         wrong = faults(found, told.get((crate, edit)))
         at = f'`{found.name}`, {found.file}:{found.line}' if found else '?'
         lines.append(f'{crate}/{edit}: {at}' + ''.join(f'; WRONG: {fault}' for fault in wrong))

@@ -1,4 +1,4 @@
-"""What tools/refusals says of a small repository, with what the checker left of each edit."""
+"""What tools/refusals says of a small repository, with what the checker printed of each edit."""
 
 import tempfile
 import unittest
@@ -6,17 +6,18 @@ from pathlib import Path
 
 from .refusals import report
 
-CODE = 'use x;\n\npub fn seven() -> u8\n    ensures { λ r. ⌜ r ≡ 7 ⌝ }\n{\n    8\n}\n\nfn other() {\n}\n'
+CODE = 'use x;\n\npub fn seven() -> u8\n    ensures small { result < 9 }\n    ensures value { result ≡ 7 }\n{\n    8\n}\n\nfn other() {\n}\n'
 LAWS = 'pub first : ℕ\nfirst = 1\n\nmodule _ (c : ℕ) where\n  pub second : ℕ\n  second =\n      2\n'
-NOTE = 'note: ROOM/src/lib.rt:6:5: it is not proved that what the function ensures holds\nnote: what antt said: ROOM/src/lib.rt:9:8: x\n'
-CAUSED = 'ROOM/proofs/first/Proof.antt:3:5: error: `first-spec`: `close` was not admitted, so this cannot be checked\n'
+REFUSED = 'rt: must-fail form/{}.edit: refused, as it must be: {}'
+ONLY = 'rt: must-fail form/{}.edit: refused, as it must be (only by a limit of the prover, which gave no verdict: choose another): {}'
 LOGS = {
-    'code': NOTE,
-    'caused': CAUSED + NOTE,
-    'proof': 'ROOM/proofs/lists/entry_form/Proof.antt:10:13: error: `returns`: x\n' + CAUSED + NOTE,
-    'law': CAUSED + 'ROOM/proofs/Laws.antt:7:7: error: `second`: x\n  y\nROOM/proofs/Laws.antt:2:1: error: `first`: x\n',
-    'law_again': 'ROOM/proofs/Laws.antt:6:3: error: `second`: x\n',
-    'nowhere': 'logic=not-proved\n',
+    'code': REFUSED.format('code', 'note: src/lib.rt:7:5: it is not proved that what the function ensures holds when it returns (`ensures-value`)'),
+    'proof': REFUSED.format('proof', './proofs/lists/entry_form/Answers.antt:10:13: error: `returns`: x: y'),
+    'law': REFUSED.format('law', './proofs/Laws.antt:7:7: error: `second`: x'),
+    'law_again': ONLY.format('law_again', 'proofs/Laws.antt:6:3: error: `second`: x'),
+    'gone': ONLY.format('gone', './proofs/Laws.antt:6:3: error: `second`: x').replace('by a limit', 'because a proof file names what the edit took away'),
+    'nowhere': 'rt: must-fail form/nowhere.edit: refused, as it must be',
+    'missed': 'rt: must-fail form/missed.edit: NOT REFUSED: the crate is still proved with this edit',
 }
 HEAD = '| edit | what is wrong | what refuses it |\n|---|---|---|\n'
 
@@ -26,22 +27,21 @@ class Refusals(unittest.TestCase):
         room = tempfile.TemporaryDirectory()
         self.addCleanup(room.cleanup)
         self.root = Path(room.name)
+        self.log = ''
 
     def write(self, path, text):
         (self.root / path).parent.mkdir(parents=True, exist_ok=True)
         (self.root / path).write_text(text)
 
-    def tried(self, edit, verdict='refused'):
-        room = f'target/must-fail/form/{edit}'
+    def tried(self, edit):
         self.write(f'crates/form/must-fail/{edit}.edit', '')
-        self.write(f'{room}/src/lib.rt', CODE)
-        self.write(f'{room}/proofs/Laws.antt', LAWS)
-        self.write(f'{room}/.log', LOGS[edit].replace('ROOM', str(self.root / room)))
-        self.write(f'{room}.res', verdict + '\n')
+        self.write('crates/form/src/lib.rt', CODE)
+        self.write('crates/form/proofs/Laws.antt', LAWS)
+        self.log += LOGS[edit] + '\n'
 
     def said(self, rows, *only):
         self.write('docs/PROOFS.md', HEAD + rows + '\n')
-        return report(self.root, only)
+        return report(self.root, 'rt: form proved\n' + self.log, only)
 
     def test_a_law(self):
         self.tried('law')
@@ -53,20 +53,20 @@ class Refusals(unittest.TestCase):
 
     def test_a_function_s_proof(self):
         self.tried('proof')
-        told = 'form/proof: `entry_form`, proofs/lists/entry_form/Proof.antt:10'
+        told = 'form/proof: `entry_form`, proofs/lists/entry_form/Answers.antt:10'
         self.assertEqual(self.said('| `form/proof` | x | `entry_form` |'), ([told], 0))
         wrong = [told + '; WRONG: its row says "no proof"']
         self.assertEqual(self.said('| `form/proof` | x | `entry_form`, no proof is found |'), (wrong, 1))
 
     def test_a_function_with_no_proof_file(self):
         self.tried('code')
-        told = 'form/code: `seven`, src/lib.rt:6'
+        told = 'form/code: `seven`, src/lib.rt:7'
         self.assertEqual(self.said('| `form/code` | x | `seven`: no proof is found |'), ([told], 0))
         self.assertEqual(self.said('| `form/code` | x | `seven` |'), ([told + '; WRONG: its row does not say "no proof"'], 1))
 
-    def test_what_follows_from_another_fault_is_passed_over(self):
-        self.tried('caused')
-        self.assertEqual(self.said('| `form/caused` | x | `seven`: no proof is found |'), (['form/caused: `seven`, src/lib.rt:6'], 0))
+    def test_a_proof_that_names_what_is_gone_is_no_refusal(self):
+        self.tried('gone')
+        self.assertEqual(self.said('| `form/gone` | x | `second` |')[1], 1)
 
     def test_several_edits_in_a_row(self):
         self.tried('law')
@@ -99,8 +99,8 @@ class Refusals(unittest.TestCase):
 
     def test_not_refused_not_tried_no_place(self):
         self.tried('nowhere')
-        self.tried('law', 'survived')
+        self.tried('missed')
         self.write('crates/form/must-fail/new.edit', '')
-        lines, bad = self.said('| `form/law`, `nowhere`, `new` | x | `second` |')
+        lines, bad = self.said('| `form/missed`, `nowhere`, `new` | x | `second` |')
         self.assertEqual(bad, 3)
-        self.assertTrue(all(line.endswith('?; WRONG: no log says where it is refused: run `rt must-fail`') for line in lines))
+        self.assertTrue(all(line.endswith('?; WRONG: the log does not say where it is refused') for line in lines))

@@ -7,7 +7,7 @@ from collections import Counter, defaultdict
 from dataclasses import dataclass, field
 from pathlib import PurePosixPath
 
-from .items import antt_items, rattle_items
+from .items import PROOFS, antt_items, rattle_items
 
 PARTS = {'src': '.rt', 'specs': '.antt', 'proofs': '.antt'}
 
@@ -33,7 +33,7 @@ class Placed:
 
 def placed(part, path, item):
     """A function's proof is named by the function, whose folder it has: every one of them has its own `returns`."""
-    if part == 'proofs' and path.stem == 'Proof':
+    if part == 'proofs' and path.stem in PROOFS:
         return Placed(f'{path.parent.name}.{item.name}', path.parent.parent.name, item)
     return Placed(item.name, path.stem, item)
 

@@ -1,5 +1,6 @@
-// The engine for C and Rust: numbers, arrays of four counts, and slices, each a pointer and then a length.
+// The engine's calls as they are lent to C and Rust: numbers, arrays of four counts, and slices. The crate `mbyasoka_c` exports them.
 #![tactic(auto)]
+
 ghost use Rattle.std.specs.Prelude.{◌≡◌};
 ghost use Rattle.rules.specs.Complex.{counts_of, empty};
 ghost use Rattle.rules.specs.Calls.{read_call, write_call, euler_call, apply_call, run_call, given, boundary_call, carry_call};
@@ -19,8 +20,7 @@ use off::writer::export_off;
 use rules::counts::Counts;
 
 // Whether the pattern is good: 0, or the refusal 1 or 2.
-#[unsafe(no_mangle)]
-pub extern "C" fn mbyasoka_check(counts: &[u8; 4], m1: &[i8], m2: &[i8], m3: &[i8]) -> u8
+pub fn mbyasoka_check(counts: &[u8; 4], m1: &[i8], m2: &[i8], m3: &[i8]) -> u8
     ensures { result ≡ tested (pattern_lent counts.now m1.now m2.now m3.now) }
 {
     let c = Counts { n: *counts };
@@ -28,8 +28,7 @@ pub extern "C" fn mbyasoka_check(counts: &[u8; 4], m1: &[i8], m2: &[i8], m3: &[i
 }
 
 // Reads a mesh from the front of the bytes: the refusal, the counts, how many bytes it took, and the place of a fault.
-#[unsafe(no_mangle)]
-pub extern "C" fn mbyasoka_read_mesh(
+pub fn mbyasoka_read_mesh(
     counts: &mut [u8; 4],
     m1: &mut [i8],
     m2: &mut [i8],
@@ -50,8 +49,7 @@ pub extern "C" fn mbyasoka_read_mesh(
 }
 
 // Writes the pattern as a mesh: the refusal, and how many bytes were written.
-#[unsafe(no_mangle)]
-pub extern "C" fn mbyasoka_write_mesh(
+pub fn mbyasoka_write_mesh(
     counts: &[u8; 4],
     m1: &[i8],
     m2: &[i8],
@@ -68,14 +66,7 @@ pub extern "C" fn mbyasoka_write_mesh(
 }
 
 // The Euler number of the pattern: the refusal, and the number.
-#[unsafe(no_mangle)]
-pub extern "C" fn mbyasoka_euler(
-    counts: &[u8; 4],
-    m1: &[i8],
-    m2: &[i8],
-    m3: &[i8],
-    number: &mut i16,
-) -> u8
+pub fn mbyasoka_euler(counts: &[u8; 4], m1: &[i8], m2: &[i8], m3: &[i8], number: &mut i16) -> u8
     ensures { record { number = number.new; refusal = result } ≡ euler_call (pattern_lent counts.now m1.now m2.now m3.now) }
 {
     let c = Counts { n: *counts };
@@ -86,8 +77,7 @@ pub extern "C" fn mbyasoka_euler(
 }
 
 // One operator, of which s are the bytes, on the pattern: the refusal, the counts after it, and the place of a fault.
-#[unsafe(no_mangle)]
-pub extern "C" fn mbyasoka_apply_operator(
+pub fn mbyasoka_apply_operator(
     counts: &mut [u8; 4],
     m1: &mut [i8],
     m2: &mut [i8],
@@ -108,8 +98,7 @@ pub extern "C" fn mbyasoka_apply_operator(
 
 // The script s on the pattern, up to the first refusal: that refusal, the counts after it, how many operators were accepted, and
 // the place of a fault.
-#[unsafe(no_mangle)]
-pub extern "C" fn mbyasoka_run_script(
+pub fn mbyasoka_run_script(
     counts: &mut [u8; 4],
     m1: &mut [i8],
     m2: &mut [i8],
@@ -131,8 +120,7 @@ pub extern "C" fn mbyasoka_run_script(
 }
 
 // The boundary of a chain of cells of dimension d: the refusal, and the chain of their faces.
-#[unsafe(no_mangle)]
-pub extern "C" fn mbyasoka_boundary(
+pub fn mbyasoka_boundary(
     counts: &[u8; 4],
     m1: &[i8],
     m2: &[i8],
@@ -148,8 +136,7 @@ pub extern "C" fn mbyasoka_boundary(
 }
 
 // The chain carried through one operator, of which s are the bytes; the pattern stays as it is. The refusal, and the place of a fault.
-#[unsafe(no_mangle)]
-pub extern "C" fn mbyasoka_carry(
+pub fn mbyasoka_carry(
     counts: &[u8; 4],
     m1: &[i8],
     m2: &[i8],
@@ -169,8 +156,7 @@ pub extern "C" fn mbyasoka_carry(
 }
 
 // Imports a plain OFF text: the refusal, the counts, and the coordinates of the corners in the list.
-#[unsafe(no_mangle)]
-pub extern "C" fn mbyasoka_import_off(
+pub fn mbyasoka_import_off(
     counts: &mut [u8; 4],
     m1: &mut [i8],
     m2: &mut [i8],
@@ -188,8 +174,7 @@ pub extern "C" fn mbyasoka_import_off(
 }
 
 // Exports the pattern as an OFF text: the refusal, and how many bytes were written.
-#[unsafe(no_mangle)]
-pub extern "C" fn mbyasoka_export_off(
+pub fn mbyasoka_export_off(
     counts: &[u8; 4],
     m1: &[i8],
     m2: &[i8],
