@@ -10,8 +10,10 @@ CODE = 'use x;\n\npub fn seven() -> u8\n    ensures small { result < 9 }\n    en
 LAWS = 'pub first : ℕ\nfirst = 1\n\nmodule _ (c : ℕ) where\n  pub second : ℕ\n  second =\n      2\n'
 REFUSED = 'rt: must-fail form/{}.edit: refused, as it must be: {}'
 ONLY = 'rt: must-fail form/{}.edit: refused, as it must be (only by a limit of the prover, which gave no verdict: choose another): {}'
+CAUSED = './proofs/first/Answers.antt:3:5: error: 1 declaration that depends on `first`, which was rejected, was not checked: other\n'
 LOGS = {
     'code': REFUSED.format('code', 'note: src/lib.rt:7:5: it is not proved that what the function ensures holds when it returns (`ensures-value`)'),
+    'caused': CAUSED + REFUSED.format('caused', 'note: src/lib.rt:7:5: it is not proved that what the function ensures holds when it returns (`ensures-value`)'),
     'proof': REFUSED.format('proof', './proofs/lists/entry_form/Answers.antt:10:13: error: `returns`: x: y'),
     'law': REFUSED.format('law', './proofs/Laws.antt:7:7: error: `second`: x'),
     'law_again': ONLY.format('law_again', 'proofs/Laws.antt:6:3: error: `second`: x'),
@@ -63,6 +65,10 @@ class Refusals(unittest.TestCase):
         told = 'form/code: `seven`, src/lib.rt:7'
         self.assertEqual(self.said('| `form/code` | x | `seven`: no proof is found |'), ([told], 0))
         self.assertEqual(self.said('| `form/code` | x | `seven` |'), ([told + '; WRONG: its row does not say "no proof"'], 1))
+
+    def test_what_follows_from_another_fault_is_passed_over(self):
+        self.tried('caused')
+        self.assertEqual(self.said('| `form/caused` | x | `seven`: no proof is found |'), (['form/caused: `seven`, src/lib.rt:7'], 0))
 
     def test_a_proof_that_names_what_is_gone_is_no_refusal(self):
         self.tried('gone')
