@@ -6,7 +6,7 @@ use Rattle.form.proofs.Bytes.{is}
 use Rattle.form.proofs.script.form_of_script.Goals as goal
 use Rattle.form.proofs.script.form_of_script.Goals.{In-Got-counts_form}
 
--- the base count and the counts are read: what is left is the operator count and the returns-in-Got-word_form
+-- the base count and the counts are read: what is left is the operator count and the operators
 headed : (c : In-Got-counts_form) →
     let s = c.args.s.now in
     script_form s ≡ after (word_at s 5 1024) Field.Bad λ count. operators_at s count count 7

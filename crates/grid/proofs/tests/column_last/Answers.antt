@@ -13,7 +13,7 @@ use Rattle.grid.proofs.Readings.{sought_begin, sought_here, sought_below, sought
 use Rattle.grid.proofs.tests.column_last.Goals as goal
 use Rattle.grid.proofs.tests.column_last.Goals.{After-eq8}
 
--- what this tests.before.before.before
+-- what this turn tests
 told : (c : After-eq8) → let x = c.args in
     c.eq8.result ≡ eq_z (entries x.m.now (c.loop-i.i - 1) x.c) (to_z w8 (of_z w8 x.z))
 told c =

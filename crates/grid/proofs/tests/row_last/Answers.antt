@@ -11,7 +11,7 @@ use Rattle.grid.proofs.Readings.{row_entry, sought_begin, sought_here, sought_be
 use Rattle.grid.proofs.tests.row_last.Goals as goal
 use Rattle.grid.proofs.tests.row_last.Goals.{After-is_zero8}
 
--- what this tests.before.before.before
+-- what this turn tests
 told : (c : After-is_zero8) → let x = c.args in
     c.is_zero8.result ≡ is_zero (entries x.m.now x.r ((c.loop-p.p - 96) / 96))
 told c = c.is_zero8.ensures ∙ ap is_zero (back w8 c.is_zero8-arg-1.given ∙ row_entry _ _ _ (omega arith) (omega arith))

@@ -16,14 +16,13 @@ use Rattle.grid.proofs.tests.row_times.Goals.{After-one_if_eq8-n}
 pub loop-p-init : goal.loop-p-init
 loop-p-init c = record { on = omega arith; upto = omega arith; passed = tally_none (omega arith) }
 
--- what this adds.before.before.before
-told : (c : After-one_if_eq8-n) → let a = c.before.before.before in let x = a.args in
-    c.one_if_eq8-n.result ≡ cond (eq_z (entries x.m.now x.r (a.loop-p.p / 96)) (to_z w8 (of_z w8 x.z))) 1 0
+-- what this turn adds
+told : (c : After-one_if_eq8-n) → let x = c.args in
+    c.one_if_eq8-n.result ≡ cond (eq_z (entries x.m.now x.r (c.loop-p.p / 96)) (to_z w8 (of_z w8 x.z))) 1 0
 told c =
-    let a = c.before.before.before in
     c.one_if_eq8-n.ensures
-    ∙ ap (λ y. cond (eq_z y (to_z w8 (of_z w8 a.args.z))) 1 0)
-    (back w8 c.one_if_eq8-arg-1.given ∙ row_entry _ _ _ (omega arith) a.loop-p.invariant.on)
+    ∙ ap (λ y. cond (eq_z y (to_z w8 (of_z w8 c.args.z))) 1 0)
+    (back w8 c.one_if_eq8-arg-1.given ∙ row_entry _ _ _ (omega arith) c.loop-p.invariant.on)
 
 pub overflow_add-n : goal.overflow_add-n
 overflow_add-n c = tally_room c.loop-p.invariant.passed (omega arith) (told (goal.at.overflow_add-n c).After-one_if_eq8-n)

@@ -15,12 +15,9 @@ returns-then-is_zero8 c =
     rw (← to_z-of_z c.ranges.z, no_face pair c.args.i _ (sym c.is_zero8.ensures ∙ c.if-is_zero8.true)) (no_piece _ _)
 
 -- the two bytes are the text
-two : (c : After-sign_byte) →
-    let start = c.before.before.before.before.before in
-    one_face pair start.args.i start.args.z ≡ start.args.i ∷ c.sign_byte.result ∷ []
+two : (c : After-sign_byte) → one_face pair c.args.i c.args.z ≡ c.args.i ∷ c.sign_byte.result ∷ []
 two c =
-    let start = c.before.before.before.before.before in
-    rw (← to_z-of_z start.ranges.z, c.sign_byte.ensures) (some_face pair start.args.i _ (sym c.is_zero8.ensures ∙ c.if-is_zero8.false))
+    rw (← to_z-of_z c.ranges.z, c.sign_byte.ensures) (some_face pair c.args.i _ (sym c.is_zero8.ensures ∙ c.if-is_zero8.false))
 
 pub put_two-requires : goal.put_two-requires
 put_two-requires c = omega (arith, ap length (two (goal.at.put_two-requires c).After-sign_byte))

@@ -1,4 +1,4 @@
--- `mesh::writer::put_section` meets its contract: the is.before.before.before put, and then the cells below j.
+-- `mesh::writer::put_section` meets its contract: the count is put, and then the cells below j.
 use native.Mathlib.Omega.{arith}
 use Rattle.mesh.specs.Writing.{cell_texts}
 use Rattle.maths.proofs.Buffers.{two_pieces, pieces_none, pieces_fit, pieces_more, pieces_all}

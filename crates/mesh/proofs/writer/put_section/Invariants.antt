@@ -1,4 +1,4 @@
--- `mesh::writer::put_section` meets its contract: the is.before.before.before put, and then the cells below j.
+-- `mesh::writer::put_section` meets its contract: the count is put, and then the cells below j.
 use Prim.Native.Nat.{◌-◌}
 use Rattle.rules.specs.Mesh.{write_cell}
 use Rattle.maths.specs.Tables.{column}

@@ -22,21 +22,20 @@ signed_length-z-requires c =
     rw (back w32 c.signed_length-arg-3-1.given) (c.requires.near 2 (omega arith))
 
 all_three : (c : After-signed_length-z) →
-    (c.before.before.before.before).signed_length-x.result + c.signed_length-y.result + c.signed_length-z.result + 3
-    ≡ length (corner_line (c.before.before.before.before.before.before).args.list.now (c.before.before.before.before.before.before).args.i)
+    c.signed_length-x.result + c.signed_length-y.result + c.signed_length-z.result + 3
+    ≡ length (corner_line c.args.list.now c.args.i)
 all_three c =
-    let x = c.before.before.before.before in
     omega (
       arith,
-      rw (back w32 x.signed_length-arg-1.given) at x.signed_length-x.ensures,
+      rw (back w32 c.signed_length-arg-1.given) at c.signed_length-x.ensures,
       rw (back w32 c.signed_length-arg-2-1.given) at c.signed_length-y.ensures,
       rw (back w32 c.signed_length-arg-3-1.given) at c.signed_length-z.ensures,
-      corner-length-is (c.before.before.before.before.before.before).args.list.now (c.before.before.before.before.before.before).args.i,
+      corner-length-is c.args.list.now c.args.i,
     )
 
 small : (c : After-signed_length-z) →
-    (c.before.before.before.before).signed_length-x.result + c.signed_length-y.result + c.signed_length-z.result + 3 ≤ 27
-small c = omega (arith, all_three c, corner-most (c.before.before.before.before.before.before).args.list.now (c.before.before.before.before.before.before).args.i)
+    c.signed_length-x.result + c.signed_length-y.result + c.signed_length-z.result + 3 ≤ 27
+small c = omega (arith, all_three c, corner-most c.args.list.now c.args.i)
 
 pub overflow_add-result : goal.overflow_add-result
 overflow_add-result c = omega (arith, small (goal.at.overflow_add-result c).After-signed_length-z)

@@ -13,8 +13,7 @@ loop-l-init c = marked_none _ _ _ (length-replicate {A = ℕ} 96 0) (λ k h. get
 low : (c : In-loop-l) → let turn = c.before in get_or turn.args.bytes.now turn.loop-l.l 0 < 96
 low c =
     let turn = c.before in
-    let start = turn.before in
-    low-at start.args.bytes.now start.args.n (omega arith) 96 start.requires.low turn.loop-l.l (omega arith)
+    low-at turn.args.bytes.now turn.args.n (omega arith) 96 turn.requires.low turn.loop-l.l (omega arith)
 
 pub returns-then-seen-c-ne0 : goal.returns-then-seen-c-ne0
 returns-then-seen-c-ne0 c =

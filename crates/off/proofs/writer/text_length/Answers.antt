@@ -27,21 +27,21 @@ returns-then-not-rings c =
     no_text-measured _ _ _ _ _ (not_closing _ _ _ _ (sym c.measure_rings-rings.ensures.closes ∙ not-true _ c.if-not-rings.true))
 
 -- all tests are passed
-plain : (c : Else-not-rings) → let a = (c.before.before.before.before.before.before.before.before.before.before.before).args in plain_by a.c a.m2.now a.tails.now a.heads.now ≡ true
+plain : (c : Else-not-rings) → let a = c.args in plain_by a.c a.m2.now a.tails.now a.heads.now ≡ true
 plain c =
-    let a = (c.before.before.before.before.before.before.before.before.before.before.before).args in
-    all_plain a.c a.m2.now a.tails.now a.heads.now (c.before.before.before.before.before.before.before).if-n-ne0.false
-    (sym c.all_sewn.ensures ∙ not-false _ (c.before.before.before.before.before).if-not-all_sewn.false-raw)
-    (sym c.all_alone.ensures ∙ not-false _ (c.before.before.before).if-not-all_alone.false-raw)
+    let a = c.args in
+    all_plain a.c a.m2.now a.tails.now a.heads.now c.if-n-ne0.false
+    (sym c.all_sewn.ensures ∙ not-false _ c.if-not-all_sewn.false-raw)
+    (sym c.all_alone.ensures ∙ not-false _ c.if-not-all_alone.false-raw)
     (sym c.measure_rings-rings.ensures.closes ∙ not-false _ c.if-not-rings.false)
 
 -- how long the three parts are together
-parts : (c : After-corners_length) → let test = c.before.before in let a = (test.before.before.before.before.before.before.before.before.before.before.before).args in
+parts : (c : After-corners_length) → let test = c.before.before in let a = test.args in
     c.head_length.result + c.corners_length.result + test.measure_rings-rings.result.length
     ≡ length (text_by a.c a.m2.now a.list.now a.tails.now a.heads.now)
 parts c =
     let test = c.before.before in
-    let a = (test.before.before.before.before.before.before.before.before.before.before.before).args in
+    let a = test.args in
     omega (
       arith,
       text-length-is a.c a.m2.now a.tails.now a.heads.now a.list.now,
@@ -54,8 +54,8 @@ small : (c : After-corners_length) → let test = c.before.before in
     c.head_length.result + c.corners_length.result + test.measure_rings-rings.result.length ≤ 77116
 small c =
     let test = c.before.before in
-    let a = (test.before.before.before.before.before.before.before.before.before.before.before).args in
-    let pre = (test.before.before.before.before.before.before.before.before.before.before.before).requires in
+    let a = test.args in
+    let pre = test.requires in
     omega (
       arith,
       parts c,

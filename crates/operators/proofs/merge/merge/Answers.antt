@@ -8,7 +8,7 @@ use Rattle.operators.proofs.merge.MergeLaws.{merge-absent, merge-refused, merge-
 use Rattle.operators.proofs.merge.merge.Goals as goal
 use Rattle.operators.proofs.merge.merge.Goals.{Else-c-k}
 
--- past the first there.before.before.before.before is such a cell
+-- past the first test there is such a cell
 here : (c : Else-c-k) → let x = c.args in
     Cell 0 2 (as_lent x.c x.m1.now x.m2.now x.m3.now) x.dim x.cell
 here c = let range = c.requires.dimension in
