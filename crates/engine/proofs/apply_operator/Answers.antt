@@ -14,9 +14,10 @@ returns-then-refusal-ne-ACCEPTED c = apply_not-good _ _ c.refusal_of_pattern-ref
 
 pub apply-done-requires : goal.apply-done-requires
 apply-done-requires c =
+    let entry = as_lent c.args.c c.args.m1.now c.args.m2.now c.args.m3.now in
     let four : length c.args.c.n ≡ 4 = search rules in
     record {
-      held = held (as_lent c.args.c c.args.m1.now c.args.m2.now c.args.m3.now) four (sym c.refusal_of_pattern-refusal.ensures ∙ c.if-refusal-ne-ACCEPTED.false);
+      held = held entry four (sym c.refusal_of_pattern-refusal.ensures ∙ c.if-refusal-ne-ACCEPTED.false);
       read_from = lone_read (sym c.form_of_operator.ensures ∙ c.in-Decoded.is);
     }
 
@@ -26,8 +27,10 @@ overflow_cast-result c =
 
 pub returns-in-Bad : goal.returns-in-Bad
 returns-in-Bad c =
-    apply_faulty _ _ (sym c.refusal_of_pattern-refusal.ensures ∙ c.if-refusal-ne-ACCEPTED.false) (sym c.form_of_operator.ensures ∙ c.in-Bad.is) c.refusal_of.ensures c.place_of.ensures
+    apply_faulty _ _ (sym c.refusal_of_pattern-refusal.ensures ∙ c.if-refusal-ne-ACCEPTED.false)
+    (sym c.form_of_operator.ensures ∙ c.in-Bad.is) c.refusal_of.ensures c.place_of.ensures
 
 pub returns-in-Decoded : goal.returns-in-Decoded
 returns-in-Decoded c =
-    apply_done _ _ (sym c.refusal_of_pattern-refusal.ensures ∙ c.if-refusal-ne-ACCEPTED.false) (sym c.form_of_operator.ensures ∙ c.in-Decoded.is) c.apply-done.ensures
+    apply_done _ _ (sym c.refusal_of_pattern-refusal.ensures ∙ c.if-refusal-ne-ACCEPTED.false)
+    (sym c.form_of_operator.ensures ∙ c.in-Decoded.is) c.apply-done.ensures

@@ -28,30 +28,41 @@ pub returns-then-not-chain-out : goal.returns-then-not-chain-out
 returns-then-not-chain-out c = boundary-short _ _ _ _ c.if-not-chain-out.true
 
 pub returns-then-refusal-ne-ACCEPTED : goal.returns-then-refusal-ne-ACCEPTED
-returns-then-refusal-ne-ACCEPTED c = boundary-not-good _ _ _ _ (sized (goal.at.returns-then-refusal-ne-ACCEPTED c).Else-not-chain-out) c.refusal_of_pattern-refusal.ensures c.if-refusal-ne-ACCEPTED.true
+returns-then-refusal-ne-ACCEPTED c =
+    boundary-not-good _ _ _ _ (sized (goal.at.returns-then-refusal-ne-ACCEPTED c).Else-not-chain-out) c.refusal_of_pattern-refusal.ensures
+    c.if-refusal-ne-ACCEPTED.true
 
 pub returns-then-not-d : goal.returns-then-not-d
 returns-then-not-d c =
-    boundary-form (as_lent c.args.c c.args.m1.now c.args.m2.now c.args.m3.now) c.args.d _ _ (sized (goal.at.returns-then-not-d c).Else-not-chain-out) (sym c.refusal_of_pattern-refusal.ensures ∙ c.if-refusal-ne-ACCEPTED.false) c.if-not-d.true
+    let entry = as_lent c.args.c c.args.m1.now c.args.m2.now c.args.m3.now in
+    boundary-form entry c.args.d _ _ (sized (goal.at.returns-then-not-d c).Else-not-chain-out)
+    (sym c.refusal_of_pattern-refusal.ensures ∙ c.if-refusal-ne-ACCEPTED.false) c.if-not-d.true
 
 pub bounds-n-d : goal.bounds-n-d
 bounds-n-d c = omega (arith, most (goal.at.bounds-n-d c).Else-not-d)
 
 pub is_chain-requires : goal.is_chain-requires
 is_chain-requires c =
-    chain-long (as_lent c.args.c c.args.m1.now c.args.m2.now c.args.m3.now) c.args.chain.now c.args.out.now (sized (goal.at.is_chain-requires c).Else-not-chain-out)
+    let entry = as_lent c.args.c c.args.m1.now c.args.m2.now c.args.m3.now in
+    chain-long entry c.args.chain.now c.args.out.now (sized (goal.at.is_chain-requires c).Else-not-chain-out)
 
 pub returns-then-not-is_chain : goal.returns-then-not-is_chain
 returns-then-not-is_chain c =
-    boundary-chain (as_lent c.args.c c.args.m1.now c.args.m2.now c.args.m3.now) c.args.d c.args.chain.now c.args.out.now (sized (goal.at.returns-then-not-is_chain c).Else-not-chain-out) (sym c.refusal_of_pattern-refusal.ensures ∙ c.if-refusal-ne-ACCEPTED.false) (ranged (goal.at.returns-then-not-is_chain c).Else-not-d)
+    let entry = as_lent c.args.c c.args.m1.now c.args.m2.now c.args.m3.now in
+    boundary-chain entry c.args.d c.args.chain.now c.args.out.now (sized (goal.at.returns-then-not-is_chain c).Else-not-chain-out)
+    (sym c.refusal_of_pattern-refusal.ensures ∙ c.if-refusal-ne-ACCEPTED.false) (ranged (goal.at.returns-then-not-is_chain c).Else-not-d)
     (sym c.is_chain.ensures ∙ c.if-not-is_chain.true)
 
 pub multiply_at-requires : goal.multiply_at-requires
 multiply_at-requires c =
-    factors (as_lent c.args.c c.args.m1.now c.args.m2.now c.args.m3.now) c.args.d c.args.chain.now c.args.out.now (sized (goal.at.multiply_at-requires c).Else-not-chain-out) (sym c.refusal_of_pattern-refusal.ensures ∙ c.if-refusal-ne-ACCEPTED.false) (ranged (goal.at.multiply_at-requires c).Else-not-d)
+    let entry = as_lent c.args.c c.args.m1.now c.args.m2.now c.args.m3.now in
+    factors entry c.args.d c.args.chain.now c.args.out.now (sized (goal.at.multiply_at-requires c).Else-not-chain-out)
+    (sym c.refusal_of_pattern-refusal.ensures ∙ c.if-refusal-ne-ACCEPTED.false) (ranged (goal.at.multiply_at-requires c).Else-not-d)
     (sym c.is_chain.ensures ∙ c.if-not-is_chain.false) (search rules)
 
 pub returns : goal.returns
 returns c =
-    boundary-done (as_lent c.args.c c.args.m1.now c.args.m2.now c.args.m3.now) c.args.d c.args.chain.now c.args.out.now (sized (goal.at.returns c).Else-not-chain-out) (sym c.refusal_of_pattern-refusal.ensures ∙ c.if-refusal-ne-ACCEPTED.false) (ranged (goal.at.returns c).Else-not-d)
+    let entry = as_lent c.args.c c.args.m1.now c.args.m2.now c.args.m3.now in
+    boundary-done entry c.args.d c.args.chain.now c.args.out.now (sized (goal.at.returns c).Else-not-chain-out)
+    (sym c.refusal_of_pattern-refusal.ensures ∙ c.if-refusal-ne-ACCEPTED.false) (ranged (goal.at.returns c).Else-not-d)
     (sym c.is_chain.ensures ∙ c.if-not-is_chain.false) c.multiply_at.ensures

@@ -26,20 +26,24 @@ returns-then-not-chain-out c = rw c.unplaced.ensures (carry_short _ _ _ _ _ c.if
 
 pub returns-then-refusal-ne-ACCEPTED : goal.returns-then-refusal-ne-ACCEPTED
 returns-then-refusal-ne-ACCEPTED c =
-    rw c.unplaced-then-refusal-ne-ACCEPTED.ensures (carry_not-good _ _ _ _ _ (sized (goal.at.returns-then-refusal-ne-ACCEPTED c).Else-not-chain-out) c.refusal_of_pattern-refusal.ensures c.if-refusal-ne-ACCEPTED.true)
+    rw c.unplaced-then-refusal-ne-ACCEPTED.ensures
+    (carry_not-good _ _ _ _ _ (sized (goal.at.returns-then-refusal-ne-ACCEPTED c).Else-not-chain-out) c.refusal_of_pattern-refusal.ensures c.if-refusal-ne-ACCEPTED.true)
 
 pub returns-then-d-gt3 : goal.returns-then-d-gt3
 returns-then-d-gt3 c =
-    rw c.unplaced-then-d-gt3.ensures (carry_form (as_lent c.args.c c.args.m1.now c.args.m2.now c.args.m3.now) _ c.args.d _ _ (sized (goal.at.returns-then-d-gt3 c).Else-not-chain-out) (passed (goal.at.returns-then-d-gt3 c).Else-refusal-ne-ACCEPTED) c.if-d-gt3.true)
+    let entry = as_lent c.args.c c.args.m1.now c.args.m2.now c.args.m3.now in
+    rw c.unplaced-then-d-gt3.ensures
+    (carry_form entry _ c.args.d _ _ (sized (goal.at.returns-then-d-gt3 c).Else-not-chain-out) (passed (goal.at.returns-then-d-gt3 c).Else-refusal-ne-ACCEPTED) c.if-d-gt3.true)
 
 pub carry_through-refusal-requires : goal.carry_through-refusal-requires
 carry_through-refusal-requires c =
+    let entry = as_lent c.args.c c.args.m1.now c.args.m2.now c.args.m3.now in
     record {
-      held = held (as_lent c.args.c c.args.m1.now c.args.m2.now c.args.m3.now) (search rules) (passed (goal.at.carry_through-refusal-requires c).Else-refusal-ne-ACCEPTED);
+      held = held entry (search rules) (passed (goal.at.carry_through-refusal-requires c).Else-refusal-ne-ACCEPTED);
       source = lone_read (sym c.form_of_operator.ensures ∙ c.in-Decoded.is);
       dim = c.if-d-gt3.false;
-      long = chain-long (as_lent c.args.c c.args.m1.now c.args.m2.now c.args.m3.now) c.args.chain.now c.args.out.now (sized (goal.at.carry_through-refusal-requires c).Else-not-chain-out);
-      room = out-long (as_lent c.args.c c.args.m1.now c.args.m2.now c.args.m3.now) c.args.chain.now c.args.out.now (sized (goal.at.carry_through-refusal-requires c).Else-not-chain-out);
+      long = chain-long entry c.args.chain.now c.args.out.now (sized (goal.at.carry_through-refusal-requires c).Else-not-chain-out);
+      room = out-long entry c.args.chain.now c.args.out.now (sized (goal.at.carry_through-refusal-requires c).Else-not-chain-out);
     }
 
 pub overflow_cast-result : goal.overflow_cast-result
@@ -48,11 +52,14 @@ overflow_cast-result c =
 
 pub returns-in-Bad : goal.returns-in-Bad
 returns-in-Bad c =
-    carry_faulty (as_lent c.args.c c.args.m1.now c.args.m2.now c.args.m3.now) _ c.args.d _ _ (sized (goal.at.returns-in-Bad c).Else-not-chain-out) (passed (goal.at.returns-in-Bad c).Else-refusal-ne-ACCEPTED) c.if-d-gt3.false
+    let entry = as_lent c.args.c c.args.m1.now c.args.m2.now c.args.m3.now in
+    carry_faulty entry _ c.args.d _ _ (sized (goal.at.returns-in-Bad c).Else-not-chain-out)
+    (passed (goal.at.returns-in-Bad c).Else-refusal-ne-ACCEPTED) c.if-d-gt3.false
     (sym c.form_of_operator.ensures ∙ c.in-Bad.is) c.refusal_of.ensures c.place_of.ensures
 
 pub returns-in-Decoded : goal.returns-in-Decoded
 returns-in-Decoded c =
+    let entry = as_lent c.args.c c.args.m1.now c.args.m2.now c.args.m3.now in
     rw c.unplaced-in-Decoded.ensures
-    (carry_done (as_lent c.args.c c.args.m1.now c.args.m2.now c.args.m3.now) _ c.args.d _ _ (sized (goal.at.returns-in-Decoded c).Else-not-chain-out) (passed (goal.at.returns-in-Decoded c).Else-refusal-ne-ACCEPTED) c.if-d-gt3.false
+    (carry_done entry _ c.args.d _ _ (sized (goal.at.returns-in-Decoded c).Else-not-chain-out) (passed (goal.at.returns-in-Decoded c).Else-refusal-ne-ACCEPTED) c.if-d-gt3.false
     (sym c.form_of_operator.ensures ∙ c.in-Decoded.is) c.carry_through-refusal.ensures)

@@ -24,11 +24,13 @@ passed c = sym c.is_chain.ensures ∙ c.if-not-is_chain.false
 
 pub write_carried-requires : goal.write_carried-requires
 write_carried-requires c =
-    rewritable c.requires c.refusal_of_carrying-refusal.ensures c.if-refusal-ne-ACCEPTED.false (passed (goal.at.write_carried-requires c).Else-not-is_chain)
+    rewritable c.requires c.refusal_of_carrying-refusal.ensures c.if-refusal-ne-ACCEPTED.false
+    (passed (goal.at.write_carried-requires c).Else-not-is_chain)
 
 pub returns : goal.returns
 returns c =
-    through_done c.requires c.refusal_of_carrying-refusal.ensures c.if-refusal-ne-ACCEPTED.false (passed (goal.at.returns c).Else-not-is_chain) c.write_carried.ensures
+    through_done c.requires c.refusal_of_carrying-refusal.ensures c.if-refusal-ne-ACCEPTED.false
+    (passed (goal.at.returns c).Else-not-is_chain) c.write_carried.ensures
 
 pub refusal_of_carrying-refusal-requires : goal.refusal_of_carrying-refusal-requires
 refusal_of_carrying-refusal-requires c = record { held = c.requires.held; read_from = c.requires.source }

@@ -7,4 +7,6 @@ pub overflow_sub-result : goal.overflow_sub-result
 overflow_sub-result c = count_difference_fits c.args.a c.args.b c.ranges.a.fits c.ranges.b.fits
 
 pub returns : goal.returns
-returns c = count_difference_is c.args.a c.args.b c.ranges.a.fits c.ranges.b.fits (to_z-of_z (count_difference_fits c.args.a c.args.b c.ranges.a.fits c.ranges.b.fits))
+returns c =
+    count_difference_is c.args.a c.args.b c.ranges.a.fits c.ranges.b.fits
+    (to_z-of_z (count_difference_fits c.args.a c.args.b c.ranges.a.fits c.ranges.b.fits))

@@ -10,4 +10,5 @@ returns-then-refusal-ne-ACCEPTED c = euler-not-good _ c.refusal_of_pattern-refus
 
 pub returns : goal.returns
 returns c =
-    euler-accepted _ (sym c.refusal_of_pattern-refusal.ensures ∙ c.if-refusal-ne-ACCEPTED.false) (back w16 c.alternating.type_inv ∙ c.alternating.ensures)
+    euler-accepted _ (sym c.refusal_of_pattern-refusal.ensures ∙ c.if-refusal-ne-ACCEPTED.false)
+    (back w16 c.alternating.type_inv ∙ c.alternating.ensures)

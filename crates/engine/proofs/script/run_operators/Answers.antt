@@ -6,7 +6,9 @@ use Rattle.engine.proofs.Runs.{run_starts, run_more, run_stops, run_ends}
 use Rattle.engine.proofs.script.run_operators.Goals as goal
 
 pub loop-left-init : goal.loop-left-init
-loop-left-init c = run_starts c.args.s.now c.args.n (as_lent c.args.c c.args.m1.now c.args.m2.now c.args.m3.now) c.requires
+loop-left-init c =
+    let entry = as_lent c.args.c c.args.m1.now c.args.m2.now c.args.m3.now in
+    run_starts c.args.s.now c.args.n entry c.requires
 
 pub run_one-one-requires : goal.run_one-one-requires
 run_one-one-requires c = record { held = c.loop-left.invariant.held; s_len_bound = c.requires.short }
@@ -26,13 +28,15 @@ shape_of-m3-then-one-ne-ACCEPTED c =
 
 pub returns-then-one-ne-ACCEPTED : goal.returns-then-one-ne-ACCEPTED
 returns-then-one-ne-ACCEPTED c =
+    let entry = as_lent c.args.c c.args.m1.now c.args.m2.now c.args.m3.now in
     let a = c.args in
-    run_stops a.s.now a.n (as_lent c.args.c c.args.m1.now c.args.m2.now c.args.m3.now) c.loop-left.invariant c.run_one-one.ensures c.loop-left-test.true c.if-one-ne-ACCEPTED.true
+    run_stops a.s.now a.n entry c.loop-left.invariant c.run_one-one.ensures c.loop-left-test.true c.if-one-ne-ACCEPTED.true
 
 pub loop-left-preserved : goal.loop-left-preserved
 loop-left-preserved c =
+    let entry = as_lent c.args.c c.args.m1.now c.args.m2.now c.args.m3.now in
     let a = c.args in
-    run_more a.s.now a.n (as_lent c.args.c c.args.m1.now c.args.m2.now c.args.m3.now) c.loop-left.invariant c.run_one-one.ensures c.loop-left-test.true c.if-one-ne-ACCEPTED.false
+    run_more a.s.now a.n entry c.loop-left.invariant c.run_one-one.ensures c.loop-left-test.true c.if-one-ne-ACCEPTED.false
 
 pub shape_of-m1 : goal.shape_of-m1
 shape_of-m1 c = c.loop-left.invariant.held.sized.size1 ∙ sym c.requires.held.sized.size1
@@ -45,7 +49,8 @@ shape_of-m3 c = c.loop-left.invariant.held.sized.size3 ∙ sym c.requires.held.s
 
 pub returns : goal.returns
 returns c =
-    run_ends c.args.s.now c.args.n (as_lent c.args.c c.args.m1.now c.args.m2.now c.args.m3.now) c.loop-left.invariant (omega arith)
+    let entry = as_lent c.args.c c.args.m1.now c.args.m2.now c.args.m3.now in
+    run_ends c.args.s.now c.args.n entry c.loop-left.invariant (omega arith)
 
 pub overflow_sub-result : goal.overflow_sub-result
 overflow_sub-result c = c.loop-left.invariant.upto

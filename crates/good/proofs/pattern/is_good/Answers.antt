@@ -25,7 +25,9 @@ counted c =
     }
 
 pub is_sound-requires : goal.is_sound-requires
-is_sound-requires c = stored_matrices (counted (goal.at.is_sound-requires c).After-count-then-few-3) (start (goal.at.is_sound-requires c).After-count-then-few-3).requires
+is_sound-requires c =
+    stored_matrices (counted (goal.at.is_sound-requires c).After-count-then-few-3)
+    (start (goal.at.is_sound-requires c).After-count-then-few-3).requires
 
 pub returns-then-few : goal.returns-then-few
 returns-then-few c = rw (good_cells (counted (goal.at.returns-then-few c).After-count-then-few-3)) c.is_sound.ensures

@@ -21,7 +21,8 @@ loop-p-init c = record { on = omega arith; upto = omega arith; passed = sought_b
 
 pub returns-then-not-is_zero8 : goal.returns-then-not-is_zero8
 returns-then-not-is_zero8 c =
-    sought_here c.loop-p.invariant.passed (omega arith) (ap not (sym (told (goal.at.returns-then-not-is_zero8 c).After-is_zero8)) ∙ c.if-not-is_zero8.true-raw)
+    sought_here c.loop-p.invariant.passed (omega arith)
+    (ap not (sym (told (goal.at.returns-then-not-is_zero8 c).After-is_zero8)) ∙ c.if-not-is_zero8.true-raw)
 
 pub loop-p-preserved : goal.loop-p-preserved
 loop-p-preserved c =

@@ -14,11 +14,13 @@ make-made-requires c =
 
 pub returns-in-Bad : goal.returns-in-Bad
 returns-in-Bad c =
+    let entry = as_lent c.args.c c.args.m1.now c.args.m2.now c.args.m3.now in
     let a = c.args in
     faulted _ c.requires.held c.faulty.ensures
-    (cell-faulty a.s.now a.k a.at (as_lent c.args.c c.args.m1.now c.args.m2.now c.args.m3.now) (sym c.make_form.ensures ∙ c.in-Bad.is))
+    (cell-faulty a.s.now a.k a.at entry (sym c.make_form.ensures ∙ c.in-Bad.is))
 
 pub returns-in-Decoded : goal.returns-in-Decoded
 returns-in-Decoded c =
+    let entry = as_lent c.args.c c.args.m1.now c.args.m2.now c.args.m3.now in
     let a = c.args in
-    cell_went a.s.now a.k a.at (as_lent c.args.c c.args.m1.now c.args.m2.now c.args.m3.now) c.requires (sym c.make_form.ensures ∙ c.in-Decoded.is) c.make-made.ensures
+    cell_went a.s.now a.k a.at entry c.requires (sym c.make_form.ensures ∙ c.in-Decoded.is) c.make-made.ensures

@@ -25,14 +25,16 @@ shape_of-m3-then-cell-ne-ACCEPTED c = c.read_cell-cell.ensures.held.sized.size3 
 
 pub returns-then-cell-ne-ACCEPTED : goal.returns-then-cell-ne-ACCEPTED
 returns-then-cell-ne-ACCEPTED c =
+    let entry = as_lent c.args.c c.args.m1.now c.args.m2.now c.args.m3.now in
     let a = c.args in
-    cells_stop a.s.now a.k a.n (complex (as_lent c.args.c c.args.m1.now c.args.m2.now c.args.m3.now), c.args.at) c.loop-left.invariant c.read_cell-cell.ensures
+    cells_stop a.s.now a.k a.n (complex entry, c.args.at) c.loop-left.invariant c.read_cell-cell.ensures
     c.loop-left-test.true c.if-cell-ne-ACCEPTED.true
 
 pub loop-left-preserved : goal.loop-left-preserved
 loop-left-preserved c =
+    let entry = as_lent c.args.c c.args.m1.now c.args.m2.now c.args.m3.now in
     let a = c.args in
-    cells_more a.s.now a.k a.n (complex (as_lent c.args.c c.args.m1.now c.args.m2.now c.args.m3.now), c.args.at) c.loop-left.invariant c.read_cell-cell.ensures
+    cells_more a.s.now a.k a.n (complex entry, c.args.at) c.loop-left.invariant c.read_cell-cell.ensures
     c.loop-left-test.true c.if-cell-ne-ACCEPTED.false
 
 pub shape_of-m1 : goal.shape_of-m1
@@ -46,5 +48,6 @@ shape_of-m3 c = c.loop-left.invariant.held.sized.size3 ∙ sym c.requires.held.s
 
 pub returns : goal.returns
 returns c =
+    let entry = as_lent c.args.c c.args.m1.now c.args.m2.now c.args.m3.now in
     let a = c.args in
-    cells_end a.s.now a.k a.n (complex (as_lent c.args.c c.args.m1.now c.args.m2.now c.args.m3.now), c.args.at) c.loop-left.invariant (omega arith) refl refl
+    cells_end a.s.now a.k a.n (complex entry, c.args.at) c.loop-left.invariant (omega arith) refl refl

@@ -14,11 +14,13 @@ overflow_add-at c =
 
 pub returns-in-Bad : goal.returns-in-Bad
 returns-in-Bad c =
+    let entry = as_lent c.args.c c.args.m1.now c.args.m2.now c.args.m3.now in
     let a = c.args in
     faulted _ c.requires.held c.faulty.ensures
-    (section_faulty a.s.now a.k ((complex (as_lent c.args.c c.args.m1.now c.args.m2.now c.args.m3.now), c.args.at)) (sym c.byte_form.ensures ∙ c.in-Bad.is))
+    (section_faulty a.s.now a.k ((complex entry, c.args.at)) (sym c.byte_form.ensures ∙ c.in-Bad.is))
 
 pub returns-in-Got : goal.returns-in-Got
 returns-in-Got c =
+    let entry = as_lent c.args.c c.args.m1.now c.args.m2.now c.args.m3.now in
     let a = c.args in
-    went_as (section_is a.s.now a.k ((complex (as_lent c.args.c c.args.m1.now c.args.m2.now c.args.m3.now), c.args.at)) (sym c.byte_form.ensures ∙ c.in-Got.is)) c.read_cells.ensures
+    went_as (section_is a.s.now a.k ((complex entry, c.args.at)) (sym c.byte_form.ensures ∙ c.in-Got.is)) c.read_cells.ensures

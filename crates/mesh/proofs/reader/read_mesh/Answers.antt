@@ -12,13 +12,16 @@ use Rattle.mesh.proofs.reader.read_mesh.Goals.{Else-not-is_sized}
 
 pub returns-then-not-is_sized : goal.returns-then-not-is_sized
 returns-then-not-is_sized c =
-    wrong_length_lem c.args.s.now (as_lent (counts_of empty) c.args.m1.now c.args.m2.now c.args.m3.now) (sym c.is_sized.ensures ∙ c.if-not-is_sized.true) c.refused.ensures
+    let entry = as_lent (counts_of empty) c.args.m1.now c.args.m2.now c.args.m3.now in
+    wrong_length_lem c.args.s.now entry (sym c.is_sized.ensures ∙ c.if-not-is_sized.true) c.refused.ensures
 
 long : (c : Else-not-is_sized) → sized (as_lent (counts_of empty) c.args.m1.now c.args.m2.now c.args.m3.now) ≡ true
 long c = sym c.is_sized.ensures ∙ c.if-not-is_sized.false
 
 pub clear_all-requires : goal.clear_all-requires
-clear_all-requires c = all-sized (as_lent (counts_of empty) c.args.m1.now c.args.m2.now c.args.m3.now) refl (long (goal.at.clear_all-requires c).Else-not-is_sized)
+clear_all-requires c =
+    let entry = as_lent (counts_of empty) c.args.m1.now c.args.m2.now c.args.m3.now in
+    all-sized entry refl (long (goal.at.clear_all-requires c).Else-not-is_sized)
 
 pub overflow_cast-read : goal.overflow_cast-read
 overflow_cast-read c =
@@ -26,8 +29,11 @@ overflow_cast-read c =
 
 pub returns-then-read-ne-ACCEPTED : goal.returns-then-read-ne-ACCEPTED
 returns-then-read-ne-ACCEPTED c =
-    reading_refused c.args.s.now (as_lent (counts_of empty) c.args.m1.now c.args.m2.now c.args.m3.now) (long (goal.at.returns-then-read-ne-ACCEPTED c).Else-not-is_sized) c.read_sections-read.ensures c.if-read-ne-ACCEPTED.true c.clear_all-then-read-ne-ACCEPTED.ensures c.refused-then-read-ne-ACCEPTED.ensures
+    let entry = as_lent (counts_of empty) c.args.m1.now c.args.m2.now c.args.m3.now in
+    reading_refused c.args.s.now entry (long (goal.at.returns-then-read-ne-ACCEPTED c).Else-not-is_sized) c.read_sections-read.ensures
+    c.if-read-ne-ACCEPTED.true c.clear_all-then-read-ne-ACCEPTED.ensures c.refused-then-read-ne-ACCEPTED.ensures
 
 pub returns : goal.returns
 returns c =
-    reading_taken c.args.s.now (as_lent (counts_of empty) c.args.m1.now c.args.m2.now c.args.m3.now) (long (goal.at.returns c).Else-not-is_sized) c.read_sections-read.ensures refl c.if-read-ne-ACCEPTED.false
+    let entry = as_lent (counts_of empty) c.args.m1.now c.args.m2.now c.args.m3.now in
+    reading_taken c.args.s.now entry (long (goal.at.returns c).Else-not-is_sized) c.read_sections-read.ensures refl c.if-read-ne-ACCEPTED.false

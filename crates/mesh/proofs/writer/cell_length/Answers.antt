@@ -13,7 +13,9 @@ abbrev counted : After-column_count → Chain
 counted c = column c.args.m.now c.args.j
 
 pub returns-else-k-eq1 : goal.returns-else-k-eq1
-returns-else-k-eq1 c = omega (arith, c.column_count.ensures, faces-length (counted (goal.at.returns-else-k-eq1 c).After-column_count), ap length (cell_list (counted (goal.at.returns-else-k-eq1 c).After-column_count) c.if-k-eq1.false))
+returns-else-k-eq1 c =
+    omega
+    (arith, c.column_count.ensures, faces-length (counted (goal.at.returns-else-k-eq1 c).After-column_count), ap length (cell_list (counted (goal.at.returns-else-k-eq1 c).After-column_count) c.if-k-eq1.false))
 
 pub overflow_mul-result : goal.overflow_mul-result
 overflow_mul-result c = omega (arith, c.column_count.ensures, faces-most (counted (goal.at.overflow_mul-result c).After-column_count))

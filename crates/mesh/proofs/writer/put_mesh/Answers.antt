@@ -7,24 +7,30 @@ use Rattle.mesh.proofs.writer.put_mesh.Goals as goal
 
 pub put_section-panels-requires : goal.put_section-panels-requires
 put_section-panels-requires c =
-    let size = mesh-size (as_lent c.args.c c.args.m1.now c.args.m2.now c.args.m3.now) in
+    let entry = as_lent c.args.c c.args.m1.now c.args.m2.now c.args.m3.now in
+    let size = mesh-size entry in
     record { columns = seam_columns c.requires.held; room = omega arith }
 
 pub put_section-blocks-requires : goal.put_section-blocks-requires
 put_section-blocks-requires c =
-    let size = mesh-size (as_lent c.args.c c.args.m1.now c.args.m2.now c.args.m3.now) in
+    let entry = as_lent c.args.c c.args.m1.now c.args.m2.now c.args.m3.now in
+    let size = mesh-size entry in
     record { columns = panel-columns c.requires.held; room = omega arith }
 
 pub put_section-requires : goal.put_section-requires
 put_section-requires c =
-    let size = mesh-size (as_lent c.args.c c.args.m1.now c.args.m2.now c.args.m3.now) in
+    let entry = as_lent c.args.c c.args.m1.now c.args.m2.now c.args.m3.now in
+    let size = mesh-size entry in
     record { columns = block_columns c.requires.held; room = omega arith }
 
 pub returns : goal.returns
 returns c =
+    let entry = as_lent c.args.c c.args.m1.now c.args.m2.now c.args.m3.now in
     let upto-seams = two_pieces c.put-seams.ensures c.put_section-panels.ensures in
     let upto-panels = two_pieces upto-seams c.put_section-blocks.ensures in
-    rw (← mesh-is (as_lent c.args.c c.args.m1.now c.args.m2.now c.args.m3.now)) (two_pieces upto-panels c.put_section.ensures)
+    rw (← mesh-is entry) (two_pieces upto-panels c.put_section.ensures)
 
 pub put-seams-requires : goal.put-seams-requires
-put-seams-requires c = omega (arith, mesh-size (as_lent c.args.c c.args.m1.now c.args.m2.now c.args.m3.now))
+put-seams-requires c =
+    let entry = as_lent c.args.c c.args.m1.now c.args.m2.now c.args.m3.now in
+    omega (arith, mesh-size entry)

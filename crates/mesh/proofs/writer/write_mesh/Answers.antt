@@ -17,7 +17,9 @@ passed : (c : Else-refusal-ne-ACCEPTED) → tested (as_lent c.args.c c.args.m1.n
 passed c = sym c.refusal_of_pattern-refusal.ensures ∙ c.if-refusal-ne-ACCEPTED.false
 
 good : (c : Else-refusal-ne-ACCEPTED) → Held (as_lent c.args.c c.args.m1.now c.args.m2.now c.args.m3.now)
-good c = let four : length c.args.c.n ≡ 4 = search rules in held (as_lent c.args.c c.args.m1.now c.args.m2.now c.args.m3.now) four (passed c)
+good c =
+    let entry = as_lent c.args.c c.args.m1.now c.args.m2.now c.args.m3.now in
+    let four : length c.args.c.n ≡ 4 = search rules in held entry four (passed c)
 
 pub returns : goal.returns
 returns c =

@@ -12,14 +12,10 @@ use Rattle.off.proofs.lengths.ring_length.Goals.{After-number_length}
 
 -- one corner more
 more : (c : After-number_length) →
-    let loop = c.before.before.before in
-    let r = take loop.args.n loop.args.bytes.now in
-    long (spaced r (loop.loop-l.l + 1)) ≡ long (spaced r loop.loop-l.l) + (1 + c.number_length.result)
+    let r = take c.args.n c.args.bytes.now in
+    long (spaced r (c.loop-l.l + 1)) ≡ long (spaced r c.loop-l.l) + (1 + c.number_length.result)
 more c =
-    let loop = c.before.before.before in
-    let pre = loop.requires in
-    let l = loop.loop-l.l in
-    rw (c.number_length.ensures, ← byte_taken pre l (omega arith)) (spaced_more (take loop.args.n loop.args.bytes.now) l)
+    rw (c.number_length.ensures, ← byte_taken c.requires c.loop-l.l (omega arith)) (spaced_more (take c.args.n c.args.bytes.now) c.loop-l.l)
 
 pub overflow_add-length-in-loop-l : goal.overflow_add-length-in-loop-l
 overflow_add-length-in-loop-l c =

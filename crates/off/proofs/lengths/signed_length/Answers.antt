@@ -31,7 +31,8 @@ overflow_add-result c =
 
 pub returns-then-z-lt0 : goal.returns-then-z-lt0
 returns-then-z-lt0 c =
-    rw (signed-minus _ (below (goal.at.returns-then-z-lt0 c).Then-z-lt0)) (omega (arith, rw (minus_is c.args.z c.requires, neg_size) at c.number_length.ensures))
+    rw (signed-minus _ (below (goal.at.returns-then-z-lt0 c).Then-z-lt0))
+    (omega (arith, rw (minus_is c.args.z c.requires, neg_size) at c.number_length.ensures))
 
 pub overflow_cast-z-2 : goal.overflow_cast-z-2
 overflow_cast-z-2 c = rw (to_z-of_z c.ranges.z) (plus_cast c.args.z (above (goal.at.overflow_cast-z-2 c).Else-z-lt0), omega arith)

@@ -30,7 +30,8 @@ sew_next-so_far-requires c =
 
 pub loop-preserved : goal.loop-preserved
 loop-preserved c =
-    going_on c.loop.invariant c.requires.few c.loop-test.true c.in-Found.ensures (long (goal.at.loop-preserved c).After-read_ring) c.sew_next-so_far.ensures
+    going_on c.loop.invariant c.requires.few c.loop-test.true c.in-Found.ensures (long (goal.at.loop-preserved c).After-read_ring)
+    c.sew_next-so_far.ensures
 
 pub returns : goal.returns
 returns c = going_done c.loop.invariant (omega arith)

@@ -29,7 +29,8 @@ put-next-requires c = omega (arith, longer (goal.at.put-next-requires c).Then-z-
 
 pub overflow_cast-z : goal.overflow_cast-z
 overflow_cast-z c =
-    rw (minus_is c.args.z c.requires.near) (minus_cast c.args.z (below (goal.at.overflow_cast-z c).Then-z-lt0), rw neg_size (omega (arith, c.requires.near)))
+    rw (minus_is c.args.z c.requires.near)
+    (minus_cast c.args.z (below (goal.at.overflow_cast-z c).Then-z-lt0), rw neg_size (omega (arith, c.requires.near)))
 
 pub put_number-requires : goal.put_number-requires
 put_number-requires c =
@@ -49,7 +50,8 @@ overflow_cast-z-2 c =
 
 pub put_number-requires-2 : goal.put_number-requires-2
 put_number-requires-2 c =
-    rw (to_z-of_z c.ranges.z) (record { small = omega (arith, c.requires.near); room = rw (signed-plus _ (above (goal.at.put_number-requires-2 c).Else-z-lt0)) at c.requires.room })
+    rw (to_z-of_z c.ranges.z)
+    (record { small = omega (arith, c.requires.near); room = rw (signed-plus _ (above (goal.at.put_number-requires-2 c).Else-z-lt0)) at c.requires.room })
 
 pub returns : goal.returns
 returns c =

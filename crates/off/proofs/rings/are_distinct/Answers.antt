@@ -10,10 +10,9 @@ pub loop-l-init : goal.loop-l-init
 loop-l-init c = marked_none _ _ _ (length-replicate {A = ℕ} 96 0) (λ k h. get_or-replicate 96 k 0 0 h)
 
 -- the corner that is met is below 96
-low : (c : In-loop-l) → let turn = c.before in get_or turn.args.bytes.now turn.loop-l.l 0 < 96
+low : (c : In-loop-l) → get_or c.args.bytes.now c.loop-l.l 0 < 96
 low c =
-    let turn = c.before in
-    low-at turn.args.bytes.now turn.args.n (omega arith) 96 turn.requires.low turn.loop-l.l (omega arith)
+    low-at c.args.bytes.now c.args.n (omega arith) 96 c.requires.low c.loop-l.l (omega arith)
 
 pub returns-then-seen-c-ne0 : goal.returns-then-seen-c-ne0
 returns-then-seen-c-ne0 c =

@@ -42,4 +42,5 @@ walk-requires c =
 pub returns : goal.returns
 returns c =
     let most = start-inside (steps (goal.at.returns c).After-fill_next) c.fill_next.ensures c.lowest-start.ensures in
-    round_walked (steps (goal.at.returns c).After-fill_next) c.fill_next.ensures c.lowest-start.ensures (omega (arith, most, c.if-start-eq-SIDE.false)) c.walk.ensures refl
+    round_walked (steps (goal.at.returns c).After-fill_next) c.fill_next.ensures c.lowest-start.ensures
+    (omega (arith, most, c.if-start-eq-SIDE.false)) c.walk.ensures refl

@@ -32,7 +32,8 @@ returns-then-n-eq0 c =
 
 pub ring_length-length-requires : goal.ring_length-length-requires
 ring_length-length-requires c =
-    taken-corners {f = way (goal.at.ring_length-length-requires c).At-loop-j} c.take_ring-n.ensures (steps (goal.at.ring_length-length-requires c).At-loop-j) c.if-n-eq0.false (few-seams c.args.m2.now c.loop-j.j) (search rules)
+    taken-corners {f = way (goal.at.ring_length-length-requires c).At-loop-j} c.take_ring-n.ensures
+    (steps (goal.at.ring_length-length-requires c).At-loop-j) c.if-n-eq0.false (few-seams c.args.m2.now c.loop-j.j) (search rules)
 
 pub overflow_add-length : goal.overflow_add-length
 overflow_add-length c =

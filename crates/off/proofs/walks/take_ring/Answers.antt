@@ -25,7 +25,8 @@ is_ring-requires c =
     let x = c.args in
     let ends = c.requires.ends in
     corners-low c.go_round.ensures c.if-not-go_round.false
-    (steps_of (ends_by x.tails.now x.heads.now) (column x.m2.now x.j) x.n ends.tail ends.head) (few (goal.at.is_ring-requires c).After-column_count-count) (search rules)
+    (steps_of (ends_by x.tails.now x.heads.now) (column x.m2.now x.j) x.n ends.tail ends.head)
+    (few (goal.at.is_ring-requires c).After-column_count-count) (search rules)
 
 pub returns-then-is_ring : goal.returns-then-is_ring
 returns-then-is_ring c =

@@ -22,5 +22,6 @@ returns c =
     let here = c.skip_blanks-here.result in
     c.limited-2.ensures.is s
     ∙ ap (limited pos) c.number_here-2.ensures
-    ∙ elim c.if-here-s.branch [ then-here-s+else-s-here-eq45 w ↦ plain_here s here w.if-s-here-eq45.false | else-here-s w ↦ plain_over s here w.if-here-s.false ]
+    ∙ elim c.if-here-s.branch
+    [ then-here-s+else-s-here-eq45 w ↦ plain_here s here w.if-s-here-eq45.false | else-here-s w ↦ plain_over s here w.if-here-s.false ]
     ∙ ap coordinate_here c.skip_blanks-here.ensures.is

@@ -19,17 +19,20 @@ skipped-to c = ap keyword_here c.skip_blanks-at.ensures.is
 pub returns-then-s-at-lt3 : goal.returns-then-s-at-lt3
 returns-then-s-at-lt3 c =
     let s = c.args.s.now in
-    keyword-short s c.skip_blanks-at.result (omega (arith, c.skip_blanks-at.ensures.near (omega arith))) ∙ skipped-to (goal.at.returns-then-s-at-lt3 c).After-skip_blanks-at
+    keyword-short s c.skip_blanks-at.result (omega (arith, c.skip_blanks-at.ensures.near (omega arith))) ∙ skipped-to
+    (goal.at.returns-then-s-at-lt3 c).After-skip_blanks-at
 
 pub returns-then-word_ends : goal.returns-then-word_ends
 returns-then-word_ends c =
     let s = c.args.s.now in
-    keyword-here s c.skip_blanks-at.result c.if-s-at.true (sym c.word_ends.ensures ∙ c.if-word_ends.true) ∙ skipped-to (goal.at.returns-then-word_ends c).After-skip_blanks-at
+    keyword-here s c.skip_blanks-at.result c.if-s-at.true (sym c.word_ends.ensures ∙ c.if-word_ends.true) ∙ skipped-to
+    (goal.at.returns-then-word_ends c).After-skip_blanks-at
 
 pub returns-else-word_ends : goal.returns-else-word_ends
 returns-else-word_ends c =
     let s = c.args.s.now in
-    keyword_longer s c.skip_blanks-at.result c.if-s-at.true (sym c.word_ends.ensures ∙ c.if-word_ends.false) ∙ skipped-to (goal.at.returns-else-word_ends c).After-skip_blanks-at
+    keyword_longer s c.skip_blanks-at.result c.if-s-at.true (sym c.word_ends.ensures ∙ c.if-word_ends.false) ∙ skipped-to
+    (goal.at.returns-else-word_ends c).After-skip_blanks-at
 
 pub returns-else-s-at : goal.returns-else-s-at
 returns-else-s-at c =

@@ -48,7 +48,8 @@ unfolding number_here
 returns-then-next-at-ge7 c =
     let args = c.args in
     let loop = c.loop-next in
-    digit-past args.s.now loop.next loop.n (loop.next - args.at) (omega arith) (digit (goal.at.returns-then-next-at-ge7 c).Else-not-is_digit) (omega arith) loop.invariant.is
+    digit-past args.s.now loop.next loop.n (loop.next - args.at) (omega arith)
+    (digit (goal.at.returns-then-next-at-ge7 c).Else-not-is_digit) (omega arith) loop.invariant.is
 
 pub loop-next-preserved : goal.loop-next-preserved
 loop-next-preserved c =

@@ -46,7 +46,8 @@ returns-then-not-are_near c = rw c.no_text.ensures (too_far _ _ _ (sym c.are_nea
 pub returns-then-length-eq0 : goal.returns-then-length-eq0
 returns-then-length-eq0 c =
     let none = measured-zero _ _ _ _ _ (sym c.text_length-length.ensures ∙ c.if-length-eq0.true) in
-    rw c.no_text-then-length-eq0.ensures (no_plain _ _ _ (near (goal.at.returns-then-length-eq0 c).Else-not-are_near) (sym (plain-taken _ _ _ c.take_ends.ensures) ∙ none))
+    rw c.no_text-then-length-eq0.ensures
+    (no_plain _ _ _ (near (goal.at.returns-then-length-eq0 c).Else-not-are_near) (sym (plain-taken _ _ _ c.take_ends.ensures) ∙ none))
 
 -- there is a text
 found : (c : Else-length-eq0) → let a = c.args in plain_by a.c a.m2.now c.take_ends.new.tails c.take_ends.new.heads ≡ true
@@ -71,7 +72,8 @@ long c = let a = c.args in measured c ∙ ap length (text-taken a.c a.m1.now a.m
 
 pub returns-then-out-length : goal.returns-then-out-length
 returns-then-out-length c =
-    rw c.no_text-then-out-length.ensures (too_long _ _ _ (near (goal.at.returns-then-out-length c).Else-not-are_near) (plain (goal.at.returns-then-out-length c).Else-length-eq0) (omega (arith, long (goal.at.returns-then-out-length c).Else-length-eq0, c.if-out-length.true)))
+    rw c.no_text-then-out-length.ensures
+    (too_long _ _ _ (near (goal.at.returns-then-out-length c).Else-not-are_near) (plain (goal.at.returns-then-out-length c).Else-length-eq0) (omega (arith, long (goal.at.returns-then-out-length c).Else-length-eq0, c.if-out-length.true)))
 
 pub put_text-written-requires : goal.put_text-written-requires
 put_text-written-requires c =
@@ -83,7 +85,9 @@ put_text-written-requires c =
 
 pub returns : goal.returns
 returns c =
-    exported _ _ _ (near (goal.at.returns c).Else-not-are_near) (plain (goal.at.returns c).Else-length-eq0) (omega (arith, long (goal.at.returns c).Else-length-eq0, c.if-out-length.false)) (rw (same (goal.at.returns c).After-take_ends) at c.put_text-written.ensures)
+    exported _ _ _ (near (goal.at.returns c).Else-not-are_near) (plain (goal.at.returns c).Else-length-eq0)
+    (omega (arith, long (goal.at.returns c).Else-length-eq0, c.if-out-length.false))
+    (rw (same (goal.at.returns c).After-take_ends) at c.put_text-written.ensures)
 
 pub text_length-length-requires : goal.text_length-length-requires
 text_length-length-requires c = measurable (goal.at.text_length-length-requires c).After-take_ends

@@ -16,7 +16,9 @@ passed : (c : Else-refusal-ne-ACCEPTED) → tested (as_lent c.args.c c.args.m1.n
 passed c = sym c.refusal_of_pattern-refusal.ensures ∙ c.if-refusal-ne-ACCEPTED.false
 
 good : (c : Else-refusal-ne-ACCEPTED) → Held (as_lent c.args.c c.args.m1.now c.args.m2.now c.args.m3.now)
-good c = let four : length c.args.c.n ≡ 4 = search rules in held (as_lent c.args.c c.args.m1.now c.args.m2.now c.args.m3.now) four (passed c)
+good c =
+    let entry = as_lent c.args.c c.args.m1.now c.args.m2.now c.args.m3.now in
+    let four : length c.args.c.n ≡ 4 = search rules in held entry four (passed c)
 
 pub export_good-requires : goal.export_good-requires
 export_good-requires c =
@@ -37,4 +39,6 @@ pub returns-then-list-ne-COORDINATES : goal.returns-then-list-ne-COORDINATES
 returns-then-list-ne-COORDINATES c = rw c.no_text.ensures (wrong_list _ _ _ c.if-list-ne-COORDINATES.true)
 
 pub returns-then-refusal-ne-ACCEPTED : goal.returns-then-refusal-ne-ACCEPTED
-returns-then-refusal-ne-ACCEPTED c = rw c.no_text-then-refusal-ne-ACCEPTED.ensures (wrong_pattern _ _ _ c.if-list-ne-COORDINATES.false c.refusal_of_pattern-refusal.ensures c.if-refusal-ne-ACCEPTED.true)
+returns-then-refusal-ne-ACCEPTED c =
+    rw c.no_text-then-refusal-ne-ACCEPTED.ensures
+    (wrong_pattern _ _ _ c.if-list-ne-COORDINATES.false c.refusal_of_pattern-refusal.ensures c.if-refusal-ne-ACCEPTED.true)

@@ -31,31 +31,29 @@ plain : (c : Else-not-rings) → let a = c.args in plain_by a.c a.m2.now a.tails
 plain c =
     let a = c.args in
     all_plain a.c a.m2.now a.tails.now a.heads.now c.if-n-ne0.false
-    (sym c.all_sewn.ensures ∙ not-false _ c.if-not-all_sewn.false-raw)
-    (sym c.all_alone.ensures ∙ not-false _ c.if-not-all_alone.false-raw)
+    (sym c.all_sewn.ensures ∙ c.if-not-all_sewn.false)
+    (sym c.all_alone.ensures ∙ c.if-not-all_alone.false)
     (sym c.measure_rings-rings.ensures.closes ∙ not-false _ c.if-not-rings.false)
 
 -- how long the three parts are together
-parts : (c : After-corners_length) → let test = c.before.before in let a = test.args in
-    c.head_length.result + c.corners_length.result + test.measure_rings-rings.result.length
+parts : (c : After-corners_length) → let a = c.args in
+    c.head_length.result + c.corners_length.result + c.measure_rings-rings.result.length
     ≡ length (text_by a.c a.m2.now a.list.now a.tails.now a.heads.now)
 parts c =
-    let test = c.before.before in
-    let a = test.args in
+    let a = c.args in
     omega (
       arith,
       text-length-is a.c a.m2.now a.tails.now a.heads.now a.list.now,
       c.head_length.ensures,
       c.corners_length.ensures,
-      test.measure_rings-rings.ensures.long (not-false _ test.if-not-rings.false),
+      c.measure_rings-rings.ensures.long (not-false _ c.if-not-rings.false),
     )
 
-small : (c : After-corners_length) → let test = c.before.before in
-    c.head_length.result + c.corners_length.result + test.measure_rings-rings.result.length ≤ 77116
+small : (c : After-corners_length) →
+    c.head_length.result + c.corners_length.result + c.measure_rings-rings.result.length ≤ 77116
 small c =
-    let test = c.before.before in
-    let a = test.args in
-    let pre = test.requires in
+    let a = c.args in
+    let pre = c.requires in
     omega (
       arith,
       parts c,

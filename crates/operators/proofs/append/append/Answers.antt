@@ -38,4 +38,5 @@ returns-in-2 c =
 
 pub returns-in_default : goal.returns-in_default
 returns-in_default c =
-    append_3 (entry (goal.at.returns-in_default c).Start) c.requires.held c.args.column.now (last (goal.at.returns-in_default c).In_default) c.set_closed-in_default.ensures
+    append_3 (entry (goal.at.returns-in_default c).Start) c.requires.held c.args.column.now (last (goal.at.returns-in_default c).In_default)
+    c.set_closed-in_default.ensures

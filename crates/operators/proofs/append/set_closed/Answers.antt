@@ -24,7 +24,8 @@ tested c =
 pub returns-then-not-columns_cancel : goal.returns-then-not-columns_cancel
 returns-then-not-columns_cancel c =
     let a = c.args in
-    set_open a.at a.column.now a.m.now (some (goal.at.returns-then-not-columns_cancel c).Start) (tested (goal.at.returns-then-not-columns_cancel c).After-columns_cancel ∙ c.if-not-columns_cancel.true)
+    set_open a.at a.column.now a.m.now (some (goal.at.returns-then-not-columns_cancel c).Start)
+    (tested (goal.at.returns-then-not-columns_cancel c).After-columns_cancel ∙ c.if-not-columns_cancel.true)
 
 pub set_some-requires : goal.set_some-requires
 set_some-requires c = c.requires.storable
@@ -33,7 +34,8 @@ pub returns : goal.returns
 returns c =
     let a = c.args in
     c.set_some.ensures
-    ∙ set_shut a.at a.column.now a.m.now (some (goal.at.returns c).Start) (tested (goal.at.returns c).After-columns_cancel ∙ c.if-not-columns_cancel.false)
+    ∙ set_shut a.at a.column.now a.m.now (some (goal.at.returns c).Start)
+    (tested (goal.at.returns c).After-columns_cancel ∙ c.if-not-columns_cancel.false)
 
 pub columns_cancel-requires : goal.columns_cancel-requires
 columns_cancel-requires c = c.requires.summands

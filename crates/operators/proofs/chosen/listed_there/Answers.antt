@@ -29,7 +29,8 @@ told c =
 
 pub returns-then-is_zero8 : goal.returns-then-is_zero8
 unfolding all_there
-returns-then-is_zero8 c = passed_not c.loop-l.invariant (omega arith) (ap not (told (goal.at.returns-then-is_zero8 c).After-is_zero8 ∙ c.if-is_zero8.true))
+returns-then-is_zero8 c =
+    passed_not c.loop-l.invariant (omega arith) (ap not (told (goal.at.returns-then-is_zero8 c).After-is_zero8 ∙ c.if-is_zero8.true))
 
 pub loop-l-preserved : goal.loop-l-preserved
 loop-l-preserved c = passed_more c.loop-l.invariant (omega arith) (ap not (told (goal.at.loop-l-preserved c).After-is_zero8 ∙ c.if-is_zero8.false))

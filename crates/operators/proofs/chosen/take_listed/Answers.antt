@@ -9,27 +9,23 @@ use Rattle.operators.proofs.chosen.take_listed.Goals as goal
 use Rattle.operators.proofs.chosen.take_listed.Goals.{After-byte_at-i}
 
 pub loop-l-init : goal.loop-l-init
-loop-l-init c = let numbered = c.requires.numbers in
-    let takeable = c.requires.takeable in mark_begin takeable.blank
+loop-l-init c = let takeable = c.requires.takeable in mark_begin takeable.blank
 
 -- a listed number is below 96
 small : (c : After-byte_at-i) → c.byte_at-i.result < 96
 small c =
     let numbered = c.requires.numbers in
-    let takeable = c.requires.takeable in
     omega (arith, c.byte_at-i.ensures, numbered.low c.loop-l.l (omega arith))
 
 pub loop-l-preserved : goal.loop-l-preserved
 loop-l-preserved c =
-    let numbered = c.requires.numbers in
     let takeable = c.requires.takeable in
     let h = small (goal.at.loop-l-preserved c).After-byte_at-i in
     mark_more c.loop-l.invariant (omega arith) c.byte_at-i.ensures h
     (back w8 c.taken-1.given ∙ column_entry _ _ _ h takeable.line.inside)
 
 pub shape_of-taken : goal.shape_of-taken
-shape_of-taken c = let numbered = c.requires.numbers in
-    let takeable = c.requires.takeable in c.loop-l.invariant.size ∙ sym takeable.blank.size
+shape_of-taken c = let takeable = c.requires.takeable in c.loop-l.invariant.size ∙ sym takeable.blank.size
 
 pub returns : goal.returns
 returns c = mark_end c.loop-l.invariant (omega arith)

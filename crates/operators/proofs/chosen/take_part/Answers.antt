@@ -23,12 +23,10 @@ listed_there-requires c =
 pub returns-then-listed_there : goal.returns-then-listed_there
 returns-then-listed_there c =
     let choice = c.requires.choice in
-    let takeable = c.requires.takeable in
     listed-taken _ _ _ _ (choice.numbered (omega arith)) (omega arith) c.take_listed.ensures
     (sym c.listed_there.ensures ∙ c.if-listed_there.true) c.is_true_part-then-listed_there.ensures
 
 pub returns-else-listed_there : goal.returns-else-listed_there
 returns-else-listed_there c =
     let choice = c.requires.choice in
-    let takeable = c.requires.takeable in
     listed_missing _ _ _ _ (choice.numbered (omega arith)) (omega arith) c.take_listed.ensures c.listed_there.ensures c.if-listed_there.false

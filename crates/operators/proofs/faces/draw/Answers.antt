@@ -28,7 +28,8 @@ shape_of-column-then-n-face c = c.loop-l.invariant.size ∙ sym c.requires.blank
 
 pub returns-then-n-face : goal.returns-then-n-face
 returns-then-n-face c =
-    not-drawn _ _ c.loop-l.invariant (listed (goal.at.returns-then-n-face c).In-loop-l).below (omega (arith, c.if-n-face.true, c.face_at-face.ensures.number))
+    not-drawn _ _ c.loop-l.invariant (listed (goal.at.returns-then-n-face c).In-loop-l).below
+    (omega (arith, c.if-n-face.true, c.face_at-face.ensures.number))
 
 -- the face has the sign of face l
 sign-is : (c : After-face_at-face) → let a = c.args in

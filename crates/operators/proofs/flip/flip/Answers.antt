@@ -15,7 +15,7 @@ here c = let range = c.requires.dimension in
 
 pub returns-then-c-k : goal.returns-then-c-k
 returns-then-c-k c = let range = c.requires.dimension in
-    let held = c.requires.held in flip-absent (absent range (omega arith) c.if-c-k.true)
+    flip-absent (absent range (omega arith) c.if-c-k.true)
 
 pub returns : goal.returns
 returns c =

@@ -16,7 +16,7 @@ here c = let range = c.requires.dimension in
 
 pub returns-then-c-k : goal.returns-then-c-k
 returns-then-c-k c = let range = c.requires.dimension in
-    let held = c.requires.held in kill-absent (absent range (omega arith) c.if-c-k.true)
+    kill-absent (absent range (omega arith) c.if-c-k.true)
 
 pub returns-then-not-is_free : goal.returns-then-not-is_free
 returns-then-not-is_free c =

@@ -39,24 +39,31 @@ below-is c =
 
 pub returns-then-not-draw : goal.returns-then-not-draw
 returns-then-not-draw c =
-    no_such_face (as_lent c.args.c c.args.m1.now c.args.m2.now c.args.m3.now) c.args.dim (made_of c.args.s.now c.args.dim c.args.list) (sym (below-is (goal.at.returns-then-not-draw c).After-draw) ∙ c.if-not-draw.true)
+    let entry = as_lent c.args.c c.args.m1.now c.args.m2.now c.args.m3.now in
+    let faces = made_of c.args.s.now c.args.dim c.args.list in
+    no_such_face entry c.args.dim faces
+    (sym (below-is (goal.at.returns-then-not-draw c).After-draw) ∙ c.if-not-draw.true)
 
 -- all faces are cells
-below : (c : After-draw) → c.draw.result ≡ true → all_below (complex (as_lent c.args.c c.args.m1.now c.args.m2.now c.args.m3.now) (pred c.args.dim)).n (made_of c.args.s.now c.args.dim c.args.list) ≡ true
+below : (c : After-draw) → c.draw.result ≡ true → let a = c.args in
+    all_below (complex (as_lent a.c a.m1.now a.m2.now a.m3.now) (pred a.dim)).n (made_of a.s.now a.dim a.list) ≡ true
 below c e = sym (below-is c) ∙ e
 
 pub returns-then-c-k-ge-MOST : goal.returns-then-c-k-ge-MOST
 returns-then-c-k-ge-MOST c =
-    let held = c.requires.held in
+    let entry = as_lent c.args.c c.args.m1.now c.args.m2.now c.args.m3.now in
+    let faces = made_of c.args.s.now c.args.dim c.args.list in
     let form = c.requires.make_form in
-    full (as_lent c.args.c c.args.m1.now c.args.m2.now c.args.m3.now) c.args.dim (made_of c.args.s.now c.args.dim c.args.list) (below (goal.at.returns-then-c-k-ge-MOST c).After-draw c.if-not-draw.false) (omega (arith, count-is (as_lent c.args.c c.args.m1.now c.args.m2.now c.args.m3.now) c.args.dim form.most, c.if-c-k-ge-MOST.true))
+    full entry c.args.dim faces
+    (below (goal.at.returns-then-c-k-ge-MOST c).After-draw c.if-not-draw.false)
+    (omega (arith, count-is entry c.args.dim form.most, c.if-c-k-ge-MOST.true))
 
 -- there is room, and the column is the chain of the faces
 room : (c : Else-c-k-ge-MOST) → (complex (as_lent c.args.c c.args.m1.now c.args.m2.now c.args.m3.now) c.args.dim).n < 96
 room c =
-    let held = c.requires.held in
+    let entry = as_lent c.args.c c.args.m1.now c.args.m2.now c.args.m3.now in
     let form = c.requires.make_form in
-    omega (arith, count-is (as_lent c.args.c c.args.m1.now c.args.m2.now c.args.m3.now) c.args.dim form.most, c.if-c-k-ge-MOST.false)
+    omega (arith, count-is entry c.args.dim form.most, c.if-c-k-ge-MOST.false)
 
 chain : (c : Else-not-draw) → coefficients c.draw.new.column ≡ chain_of (made_of c.args.s.now c.args.dim c.args.list)
 chain c = c.draw.ensures.chain c.if-not-draw.false
@@ -75,12 +82,20 @@ append-requires c =
 
 pub returns-then-not-append : goal.returns-then-not-append
 returns-then-not-append c =
-    not-closed (as_lent c.args.c c.args.m1.now c.args.m2.now c.args.m3.now) c.args.dim (made_of c.args.s.now c.args.dim c.args.list) (below (goal.at.returns-then-not-append c).After-draw c.if-not-draw.false) (room (goal.at.returns-then-not-append c).Else-c-k-ge-MOST) (chain (goal.at.returns-then-not-append c).Else-not-draw) (rw c.if-not-append.true at c.append.ensures)
+    let entry = as_lent c.args.c c.args.m1.now c.args.m2.now c.args.m3.now in
+    let faces = made_of c.args.s.now c.args.dim c.args.list in
+    not-closed entry c.args.dim faces
+    (below (goal.at.returns-then-not-append c).After-draw c.if-not-draw.false) (room (goal.at.returns-then-not-append c).Else-c-k-ge-MOST)
+    (chain (goal.at.returns-then-not-append c).Else-not-draw) (rw c.if-not-append.true at c.append.ensures)
 
 pub returns : goal.returns
 returns c =
+    let entry = as_lent c.args.c c.args.m1.now c.args.m2.now c.args.m3.now in
+    let faces = made_of c.args.s.now c.args.dim c.args.list in
     let held = c.requires.held in
     let form = c.requires.make_form in
     rw c.grown-counts.ensures
-    (made_is (as_lent c.args.c c.args.m1.now c.args.m2.now c.args.m3.now) c.args.dim (made_of c.args.s.now c.args.dim c.args.list) (below (goal.at.returns c).After-draw c.if-not-draw.false) (room (goal.at.returns c).Else-c-k-ge-MOST) (chain (goal.at.returns c).Else-not-draw) held.sized form.most
+    (made_is entry c.args.dim faces
+    (below (goal.at.returns c).After-draw c.if-not-draw.false) (room (goal.at.returns c).Else-c-k-ge-MOST)
+    (chain (goal.at.returns c).Else-not-draw) held.sized form.most
     (rw c.if-not-append.false at c.append.ensures))

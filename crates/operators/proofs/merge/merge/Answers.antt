@@ -16,7 +16,7 @@ here c = let range = c.requires.dimension in
 
 pub returns-then-c-k : goal.returns-then-c-k
 returns-then-c-k c = let range = c.requires.dimension in
-    let held = c.requires.held in merge-absent (absent range (omega arith) c.if-c-k.true)
+    merge-absent (absent range (omega arith) c.if-c-k.true)
 
 pub merge_at-requires : goal.merge_at-requires
 merge_at-requires c =

@@ -31,7 +31,11 @@ between c =
     sym c.is_between-between.ensures ∙ c.if-not-between.false
 
 pub returns-then-not-alone : goal.returns-then-not-alone
-returns-then-not-alone c = shared_face_lem (places (goal.at.returns-then-not-alone c).After-row_last-a) (between (goal.at.returns-then-not-alone c).Else-not-between) c.requires.inside c.shared-alone.ensures (ne_eqb _ 1 c.if-not-alone.true)
+returns-then-not-alone c =
+    shared_face_lem (places (goal.at.returns-then-not-alone c).After-row_last-a)
+    (between (goal.at.returns-then-not-alone c).Else-not-between) c.requires.inside c.shared-alone.ensures (ne_eqb _ 1 c.if-not-alone.true)
 
 pub returns : goal.returns
-returns c = sides-found (places (goal.at.returns c).After-row_last-a) (between (goal.at.returns c).Else-not-between) c.requires.inside c.shared-alone.ensures (eq-eqb _ 1 c.if-not-alone.false)
+returns c =
+    sides-found (places (goal.at.returns c).After-row_last-a) (between (goal.at.returns c).Else-not-between) c.requires.inside
+    c.shared-alone.ensures (eq-eqb _ 1 c.if-not-alone.false)

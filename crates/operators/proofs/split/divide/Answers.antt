@@ -14,7 +14,6 @@ returns-then-not-take_part c = wrong_part_lem _ _ _ _ _ _ _ _ c.take_part.ensure
 
 pub take_boundary-requires : goal.take_boundary-requires
 take_boundary-requires c =
-    let choice = c.requires.choice in
     let fits = c.requires.splittable in
     record { boundary_needs = part_under fits c.take_part.ensures; blank = blank }
 
@@ -24,25 +23,21 @@ returns-then-not-take_boundary c =
 
 pub set_divider-requires : goal.set_divider-requires
 set_divider-requires c =
-    let choice = c.requires.choice in
     let fits = c.requires.splittable in
     new_column fits c.take_part.ensures c.take_boundary.ensures
 
 pub halve-requires : goal.halve-requires
 halve-requires c =
-    let choice = c.requires.choice in
     let fits = c.requires.splittable in
     two_halves fits c.take_part.ensures
 
 pub repeat_row-requires : goal.repeat_row-requires
 repeat_row-requires c =
-    let choice = c.requires.choice in
     let fits = c.requires.splittable in
     new_row fits
 
 pub returns : goal.returns
 returns c =
-    let choice = c.requires.choice in
     let fits = c.requires.splittable in
     all-stored _ _ _ _ _ _ _ _ c.take_part.ensures c.if-not-take_part.false-raw c.take_boundary.ensures fits.least
     c.if-not-take_boundary.false-raw c.set_divider.ensures c.halve.ensures c.repeat_row.ensures

@@ -8,7 +8,6 @@ use Rattle.operators.proofs.split.split.Goals as goal
 
 pub faces_below-requires : goal.faces_below-requires
 faces_below-requires c =
-    let held = c.requires.held in
     let form = c.requires.split_form in
     list_form form
 
@@ -34,7 +33,8 @@ pub returns-then-refusal-ne-ACCEPTED : goal.returns-then-refusal-ne-ACCEPTED
 returns-then-refusal-ne-ACCEPTED c =
     let held = c.requires.held in
     let form = c.requires.split_form in
-    split-answer-refused held form c.faces_below.ensures c.if-not-cell-here.false-raw c.if-not-below-here.false-raw c.split_at-refusal.ensures c.if-refusal-ne-ACCEPTED.true
+    split-answer-refused held form c.faces_below.ensures c.if-not-cell-here.false-raw c.if-not-below-here.false-raw
+    c.split_at-refusal.ensures c.if-refusal-ne-ACCEPTED.true
 
 pub grown-more-requires : goal.grown-more-requires
 grown-more-requires c =
@@ -53,5 +53,6 @@ pub returns : goal.returns
 returns c =
     let held = c.requires.held in
     let form = c.requires.split_form in
-    split-answer-accepted held form c.faces_below.ensures c.if-not-cell-here.false-raw c.if-not-below-here.false-raw c.split_at-refusal.ensures c.if-refusal-ne-ACCEPTED.false
+    split-answer-accepted held form c.faces_below.ensures c.if-not-cell-here.false-raw c.if-not-below-here.false-raw
+    c.split_at-refusal.ensures c.if-refusal-ne-ACCEPTED.false
     (c.grown-counts.ensures ∙ ap (λ x. grown_at x c.args.dim) c.grown-more.ensures)
