@@ -4,6 +4,8 @@
 ghost use Rattle.std.specs.Prelude.{[], ◌∷◌};
 ghost use Rattle.maths.specs.Buffers.{Fits, Put};
 
+pub mod decimal;
+
 // b at a place, and the place after it.
 pub fn put(out: &mut [u8], at: usize, b: u8) -> usize
     requires { Fits out.old at (b ∷ []) }
@@ -28,8 +30,7 @@ pub fn put_all(out: &mut [u8], at: usize, s: &[u8]) -> usize
     requires { Fits out.old at s.now }
     ensures { Put out.old at s.now result out.new }
 {
-    for i in 0..s.len() {
-        out[at + i] = s[i];
-    }
-    at + s.len()
+    let next = at + s.len();
+    out[at..next].copy_from_slice(s);
+    next
 }

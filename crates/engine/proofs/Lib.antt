@@ -7,8 +7,8 @@ pub mod Answers
 -- The run of a script, and the answers of a call with one
 pub mod Runs
 pub mod ScriptAnswers
+mod Listed
 -- The Euler number
-mod Counted
 mod EulerAnswers
 -- The coefficients of a chain
 mod Coefficients

@@ -1,8 +1,8 @@
 -- The number of an outcome: 0 where it is accepted, else the refusal.
 use mathlib.Core.Path.{◌≡◌, refl, sym, ap, ◌∙◌}
-use mathlib.Core.Logic.{◌≢◌}
+use mathlib.Core.Logic.{◌≢◌, ◌⊎◌, inl, inr}
 use Prim.Native.Nat.{ℕ}
-use Rattle.rules.specs.declared.answers.Applied.{Applied}
+use Rattle.rules.specs.Answers.{Applied}
 use Rattle.rules.specs.declared.operator.Operator.{Operator}
 use Rattle.rules.specs.declared.operator.Operator.TheVariants.{Make, Kill, Split, Merge, Flip}
 use Rattle.rules.specs.Refusals.{accepted, not_carried}
@@ -25,26 +25,17 @@ applied-number p (removed Y) e = ap (λ (l : Lent Applied). l.answer.refusal) e
 
 -- carrying through a make, a split or a flip is refused as the operator is, and through the others by 17
 module _ {o : Operator} (F : Faces) (X : Complex) where
-  module _ {r : ℕ} (tried : r ≡ number_of (step o F X)) where
-    pub make-number : {k list : ℕ} → o ≡ Make k list → r ≡ number_of (carry_step o F X)
-    unfolding carry_step
-    make-number e = rw e (rw e at tried)
+  pub as-tried : ((k : ℕ) × (list : ℕ) × (o ≡ Make k list)) ⊎ (((k : ℕ) × (s : ℕ) × (list : ℕ) × (o ≡ Split k s list)) ⊎ ((k : ℕ) × (c : ℕ) × (o ≡ Flip k c)))
+      → {r : ℕ} → r ≡ number_of (step o F X) → r ≡ number_of (carry_step o F X)
+  unfolding carry_step
+  as-tried (inl x) t = rw x.2 (rw x.2 at t)
+  as-tried (inr (inl x)) t = rw x.3 (rw x.3 at t)
+  as-tried (inr (inr x)) t = rw x.2 (rw x.2 at t)
 
-    pub split-number : {k s list : ℕ} → o ≡ Split k s list → r ≡ number_of (carry_step o F X)
-    unfolding carry_step
-    split-number e = rw e (rw e at tried)
-
-    pub flip-number : {k c : ℕ} → o ≡ Flip k c → r ≡ number_of (carry_step o F X)
-    unfolding carry_step
-    flip-number e = rw e (rw e at tried)
-
-  pub kill-number : {k c : ℕ} → o ≡ Kill k c → not_carried ≡ number_of (carry_step o F X)
+  pub not-carried : ((k : ℕ) × (c : ℕ) × (o ≡ Kill k c)) ⊎ ((k : ℕ) × (t : ℕ) × (o ≡ Merge k t)) → not_carried ≡ number_of (carry_step o F X)
   unfolding number_of carry_step
-  kill-number e = rw e
-
-  pub merge-number : {k t : ℕ} → o ≡ Merge k t → not_carried ≡ number_of (carry_step o F X)
-  unfolding number_of carry_step
-  merge-number e = rw e
+  not-carried (inl x) = rw x.2
+  not-carried (inr x) = rw x.2
 
 -- carrying removes no cell
 carry_keeps : (o : Operator) (F : Faces) (X : Complex) {Y : Complex} → carry_step o F X ≢ removed Y

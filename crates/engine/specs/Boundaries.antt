@@ -1,9 +1,8 @@
 -- What the parts of the boundary call make, and what each needs.
-use Rattle.std.specs.Prelude.{◌≡◌, cond, List, ℕ, ◌+◌, ◌<◌, ◌≤◌, eqb, ℤ, pos, nat_abs, length, get_or}
+use Rattle.std.specs.Prelude.{◌≡◌, cond, List, ℕ, ◌<◌, ◌≤◌, eqb, ℤ, pos, nat_abs, length, get_or}
 use Rattle.maths.specs.Sums.{dot}
 use Rattle.maths.specs.Tables.{table, entries}
 use Rattle.rules.specs.Chains.{boundary_limit}
-use Rattle.grid.specs.Grid.{run}
 
 -- the first k columns of m, each times its coefficient, added
 abbrev pub product : List ℤ → List ℤ → ℕ → List ℤ
@@ -20,10 +19,10 @@ pub record Term (x e v : ℤ) : Type 0 where
   pub limit : nat_abs v ≤ boundary_limit
 
 -- 96 sums, a column and its coefficient
-pub record Terms (sums m : List ℤ) (from : ℕ) (v : ℤ) : Type 0 where
+pub record Terms (sums column : List ℤ) (v : ℤ) : Type 0 where
   pub size : length sums ≡ 96
-  pub inside : from + 96 ≤ length m
-  pub term : (i : ℕ) → i < 96 → Term (get_or sums i (pos 0)) (run m from i) v
+  pub long : length column ≡ 96
+  pub term : (i : ℕ) → i < 96 → Term (get_or sums i (pos 0)) (get_or column i (pos 0)) v
 
 -- a matrix, a chain within the limit, and 96 places for its boundary
 pub record Factors (m c out : List ℤ) : Type 0 where

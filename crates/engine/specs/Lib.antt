@@ -1,5 +1,4 @@
 pub mod Source
 pub mod Running
-pub mod Numbers
 pub mod Boundaries
 pub mod Carrying

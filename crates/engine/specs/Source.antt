@@ -1,6 +1,5 @@
 -- Where an operator comes from: the bytes that it was read from.
-use Rattle.std.specs.Prelude.{◌≡◌, List, ℕ}
-use Rattle.rules.specs.declared.form.OperatorForm.{OperatorForm}
+use Rattle.std.specs.Prelude.{◌≡◌, List, ℕ, Ok}
 use Rattle.rules.specs.declared.operator.Operator.{Operator}
 use Rattle.rules.specs.Form.{operator_at}
 
@@ -8,4 +7,4 @@ use Rattle.rules.specs.Form.{operator_at}
 pub record ReadFrom (s : List ℕ) (o : Operator) : Type 0 where
   pub at : ℕ
   pub next : ℕ
-  pub form : operator_at s at ≡ OperatorForm.Decoded o next
+  pub form : operator_at s at ≡ Ok (o, next)

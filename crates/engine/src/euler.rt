@@ -4,41 +4,27 @@ ghost use Rattle.rules.specs.Counts.{count_of};
 ghost use Rattle.rules.specs.Complex.{bare};
 ghost use Rattle.rules.specs.Complex as complexes;
 ghost use Rattle.rules.specs.Calls.{euler_call};
-ghost use Rattle.rules.specs.Lending.{at_entry};
-ghost use Rattle.engine.specs.Numbers.{Difference};
+ghost use Rattle.rules.specs.Told.{euler_told};
+ghost use Rattle.rules.specs.Lending.{seen_by};
 
 use good::refusal_of_pattern;
-use rules::answers::EulerNumber;
 use rules::counts::Counts;
-use rules::refusals::ACCEPTED;
-
-// One count less another.
-fn difference(a: u8, b: u8) -> i16
-    ensures { Difference a b result }
-{
-    (a as i16) - (b as i16)
-}
+use rules::pattern::View;
+use rules::refusals::Refusal;
 
 // The Euler number of four counts.
+#[tactic(auto, unfolding(rules::specs::Complex::euler))]
 fn alternating(c: Counts) -> i16
     ensures { result ≡ complexes.euler (λ k. bare (count_of c k)) }
 {
-    let n = c.n;
-    let low = difference(n[0], n[1]);
-    let high = difference(n[2], n[3]);
-    low + high
+    let [corners, seams, panels, blocks] = c.n;
+    i16::from(corners) - i16::from(seams) + i16::from(panels) - i16::from(blocks)
 }
 
-// The Euler number of a lent pattern, or 0 where it is refused by 1 or 2, in this order.
-pub fn euler(c: Counts, m1: &[i8], m2: &[i8], m3: &[i8]) -> EulerNumber
-    ensures { result ≡ euler_call (at_entry c m1.now m2.now m3.now) }
+// The Euler number of a lent pattern, or a refusal by 1 or 2, in this order.
+pub fn euler(p: View) -> Result<i16, Refusal>
+    ensures { euler_told result ≡ euler_call (seen_by p.entry) }
 {
-    let refusal = refusal_of_pattern(c, m1, m2, m3);
-    if refusal != ACCEPTED {
-        return EulerNumber { number: 0, refusal };
-    }
-    EulerNumber {
-        number: alternating(c),
-        refusal: ACCEPTED,
-    }
+    refusal_of_pattern(p)?;
+    Ok(alternating(p.counts))
 }

@@ -2,3 +2,4 @@ pub mod Tests
 pub mod Places
 pub mod Parts
 pub mod Passing
+pub mod Ranges

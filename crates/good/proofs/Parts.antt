@@ -18,7 +18,7 @@ use Rattle.rules.specs.Good.{is_good}
 use Rattle.rules.specs.Calls.{sized}
 use Rattle.good.specs.Tested.{tested}
 use Rattle.good.specs.Columns.{Matrix}
-use Rattle.good.specs.Parts.{cells_of, few_cells, all_in_place, formed, sound, Stored}
+use Rattle.good.specs.Parts.{few_cells, all_in_place, formed, sound, Stored}
 
 pub three : {a b c : Bool} → a && b && c ≡ true → (a ≡ true) × (b ≡ true) × (c ≡ true)
 three {a} {b} {c} t = let ab = and_left (a && b) c t in (and_left a b ab, and_right a b ab, and_right (a && b) c t)
@@ -33,32 +33,21 @@ good_parts p = simp and_assoc
 pub good-few : (p : Pattern) → few_cells p.counts ≡ false → is_good (complex p) ≡ false
 good-few p e = good_parts p ∙ rw e
 
--- the counts of p as numbers, none of them above 96
-pub record Counted (p : Pattern) (n0 n1 n2 n3 : ℕ) : Type 0 where
-  pub corners : n0 ≡ count_of p.counts 0
-  pub seams : n1 ≡ count_of p.counts 1
-  pub panels : n2 ≡ count_of p.counts 2
-  pub blocks : n3 ≡ count_of p.counts 3
-  pub few : few_cells p.counts ≡ true
+-- the test where no count is above 96
+module _ (p : Pattern) (few : few_cells p.counts ≡ true) where
+  pub good_cells : is_good (complex p) ≡ sound (complex p)
+  good_cells = good_parts p ∙ rw few
 
-module _ {p : Pattern} {n0 n1 n2 n3 : ℕ} (s : Counted p n0 n1 n2 n3) where
-  sound_cells : sound (complex p) ≡ sound (cells_of n0 n1 n2 n3 p.m1 p.m2 p.m3)
-  unfolding sound all_in_place formed
-  sound_cells = rw (s.corners, s.seams, s.panels, s.blocks)
-
-  pub good_cells : is_good (complex p) ≡ sound (cells_of n0 n1 n2 n3 p.m1 p.m2 p.m3)
-  good_cells = good_parts p ∙ rw s.few sound_cells
-
-  at : {n : ℕ} (k : ℕ) → n ≡ count_of p.counts k → k < 4 → n ≤ 96
+  at : (k : ℕ) → k < 4 → count_of p.counts k ≤ 96
   unfolding few_cells
-  at k e h = rw e (leb-true (count_of p.counts k) 96 (all-at 4 (λ k. leb (count_of p.counts k) 96) s.few k h))
+  at k h = leb-true (count_of p.counts k) 96 (all-at 4 (λ k. leb (count_of p.counts k) 96) few k h)
 
-  pub stored_matrices : sized p ≡ true → Stored n0 n1 n2 n3 p.m1 p.m2 p.m3
+  pub stored_matrices : sized p ≡ true → Stored p
   stored_matrices long =
-      let c0 = at 0 s.corners (omega arith) in
-      let c1 = at 1 s.seams (omega arith) in
-      let c2 = at 2 s.panels (omega arith) in
-      let c3 = at 3 s.blocks (omega arith) in
+      let c0 = at 0 (omega arith) in
+      let c1 = at 1 (omega arith) in
+      let c2 = at 2 (omega arith) in
+      let c3 = at 3 (omega arith) in
       let l = three long in
       record { first = matrix l.0 c0 c1; second = matrix l.1 c1 c2; third = matrix l.2 c2 c3 }
 

@@ -1,17 +1,13 @@
 -- The test of a good pattern in the parts that are tested one after the other, and what each needs.
-use Rattle.std.specs.Prelude.{◌≡◌, Bool, not, ◌&&◌, List, [], ◌∷◌, ℕ, ◌≤◌, leb, ℤ, pos}
+use Rattle.std.specs.Prelude.{◌≡◌, Bool, not, ◌&&◌, List, ℕ, ◌≤◌, leb, ℤ, pos}
 use Rattle.maths.specs.Tests.{all}
 use Rattle.maths.specs.Tables.{entries}
 use Rattle.grid.specs.Grid.{Units}
 use Rattle.rules.specs.declared.counts.Counts.{Counts}
 use Rattle.rules.specs.Counts.{count_of}
-use Rattle.rules.specs.Complex.{Complex, complex}
+use Rattle.rules.specs.Complex.{Pattern, Complex}
 use Rattle.rules.specs.Good.{one_each, all_zero, in_place, closes}
 use Rattle.good.specs.Columns.{Matrix}
-
--- the complex of four counts and three matrices
-abbrev pub cells_of : ℕ → ℕ → ℕ → ℕ → List ℤ → List ℤ → List ℤ → Complex
-cells_of n0 n1 n2 n3 m1 m2 m3 = complex (record { counts = record { n = n0 ∷ n1 ∷ n2 ∷ n3 ∷ [] }; m1 = m1; m2 = m2; m3 = m3 })
 
 -- every count is at most 96
 unfoldable pub few_cells : Counts → Bool
@@ -33,10 +29,10 @@ unfoldable pub sound : Complex → Bool
 sound X = all_in_place X && formed X
 
 -- three stored matrices, with four counts that are at most 96
-pub record Stored (n0 n1 n2 n3 : ℕ) (m1 m2 m3 : List ℤ) : Type 0 where
-  pub first : Matrix m1 n0 n1
-  pub second : Matrix m2 n1 n2
-  pub third : Matrix m3 n2 n3
+pub record Stored (p : Pattern) : Type 0 where
+  pub first : Matrix p.m1 (count_of p.counts 0) (count_of p.counts 1)
+  pub second : Matrix p.m2 (count_of p.counts 1) (count_of p.counts 2)
+  pub third : Matrix p.m3 (count_of p.counts 2) (count_of p.counts 3)
 
 -- a matrix with its entries in place: -1, 0 or 1, and 0 past the rows in use
 pub record Placed (m : List ℤ) (rows : ℕ) : Type 0 where
@@ -44,7 +40,7 @@ pub record Placed (m : List ℤ) (rows : ℕ) : Type 0 where
   pub past : (i j : ℕ) → rows ≤ i → entries m i j ≡ pos 0
 
 -- all three
-pub record AllPlaced (n0 n1 n2 : ℕ) (m1 m2 m3 : List ℤ) : Type 0 where
-  pub first : Placed m1 n0
-  pub second : Placed m2 n1
-  pub third : Placed m3 n2
+pub record AllPlaced (p : Pattern) : Type 0 where
+  pub first : Placed p.m1 (count_of p.counts 0)
+  pub second : Placed p.m2 (count_of p.counts 1)
+  pub third : Placed p.m3 (count_of p.counts 2)

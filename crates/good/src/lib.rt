@@ -3,36 +3,35 @@
 
 ghost use Rattle.std.specs.Prelude.{◌≡◌};
 ghost use Rattle.good.specs.Tested.{tested};
-ghost use Rattle.rules.specs.Complex.{counts_of, empty};
 ghost use Rattle.rules.specs.Calls.{sized};
-ghost use Rattle.rules.specs.Lending.{at_entry};
+ghost use Rattle.rules.specs.Lending.{seen_by};
+ghost use Rattle.rules.specs.Told.{number_told};
 
 use crate::pattern::is_good;
 use maths::SIZE;
-use rules::counts::Counts;
-use rules::refusals::{ACCEPTED, NOT_GOOD, WRONG_LENGTH};
+use rules::pattern::View;
+use rules::refusals::Refusal;
 
 mod columns;
 mod pattern;
 mod products;
 
 // Whether each matrix has 9,216 entries.
-pub fn is_sized(m1: &[i8], m2: &[i8], m3: &[i8]) -> bool
-    ensures { result ≡ sized (at_entry (counts_of empty) m1.now m2.now m3.now) }
+pub fn is_sized(p: View) -> bool
+    ensures { result ≡ sized (seen_by p.entry) }
 {
-    (m1.len() == SIZE) & (m2.len() == SIZE) & (m3.len() == SIZE)
+    (p.m1.len() == SIZE) & (p.m2.len() == SIZE) & (p.m3.len() == SIZE)
 }
 
-// The refusal of a lent pattern: 1 where a matrix is not 9,216 long, else 2 where the pattern is not good, else 0.
-pub fn refusal_of_pattern(c: Counts, m1: &[i8], m2: &[i8], m3: &[i8]) -> u8
-    ensures { result ≡ tested (at_entry c m1.now m2.now m3.now) }
+// The refusal of a lent pattern, if it has one: 1 where a matrix is not 9,216 long, else 2 where the pattern is not good.
+pub fn refusal_of_pattern(p: View) -> Result<(), Refusal>
+    ensures { number_told result ≡ tested (seen_by p.entry) }
 {
-    if !is_sized(m1, m2, m3) {
-        return WRONG_LENGTH;
+    if !is_sized(p) {
+        return Err(Refusal::WrongLength);
     }
-    if is_good(c, m1, m2, m3) {
-        ACCEPTED
-    } else {
-        NOT_GOOD
+    if !is_good(p) {
+        return Err(Refusal::NotGood);
     }
+    Ok(())
 }

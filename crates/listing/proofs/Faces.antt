@@ -1,16 +1,20 @@
 -- The faces of a cell: which text each has, and how long the texts are.
-use mathlib.Core.Path.{◌≡◌, refl, sym}
+use mathlib.Core.Path.{◌≡◌, refl, sym, ◌∙◌}
 use mathlib.Core.Bool.{Bool, true, false, cond}
 use mathlib.Core.List.{List, [], ◌++◌}
-use Prim.Native.Nat.{ℕ, ◌+◌, ◌*◌, ◌<◌, ◌≤◌}
+use Prim.Native.Nat.{ℕ, ◌+◌, ◌-◌, ◌*◌, ◌^◌, ◌<◌, ◌≤◌}
 use native.Mathlib.Omega.{arith}
 use lib.IntN.{ℤ, pos, negsuc}
-use lib.ListN.{length}
-use lib.Signed.{lt_z}
-use mir.Syntax.{w8}
-use mir.Val.{Fits}
+use lib.ListN.{length, get_or, take, drop}
+use lib.Signed.{lt_z, mag}
+use mir.Syntax.{w8, w16}
+use mir.Val.{Fits, to_z, of_z}
 use borrow.Author.Tests.{ltb-true, ltb-false, ne_eqb}
 use Rattle.maths.specs.Tests.{eq_z, is_zero, last}
+use Rattle.std.proofs.lemmas.List.{get_or-take, get_or-drop}
+use Rattle.maths.specs.Tables.{entries}
+use Rattle.maths.proofs.Tables.{entries_in}
+use Rattle.maths.proofs.Sizes.{back}
 use Rattle.maths.proofs.Cases.{by_bool, no_eq}
 use Rattle.maths.proofs.Tests.{last_le}
 use Rattle.maths.proofs.Sums.{join-most}
@@ -52,6 +56,14 @@ pub face_texts_most : (v : Chain) {i : ℕ} {x y : List ℕ} {at next : ℕ} →
 face_texts_most v {i} p =
     omega (arith, p.put.place, join-most i 4 (λ i. one_face signed_face i (v i)) (λ k l. face_most k (v k) (omega (arith, p.most))))
 
--- the number of an entry of a column is a byte
-pub last_byte : {r : ℕ} (p : ℕ → Bool) → r ≡ last 96 p → Fits w8 r
-last_byte p e = omega (arith, last_le 96 p)
+-- the number of an entry of a column can be printed
+pub last_fits : {r : ℕ} (p : ℕ → Bool) → r ≡ last 96 p → Fits w16 r
+last_fits p e = omega (arith, last_le 96 p)
+
+-- an entry of a stored column, read from its place
+pub column_read : (m : List ℤ) (i j : ℕ) → i < 96 → j < 96 → let z = get_or (take (96 * j + 96 - 96 * j) (drop (96 * j) m)) i (pos 0) in
+    mag z < 2 ^ 7 → to_z w8 (of_z w8 z) ≡ entries m i j
+column_read m i j hi hj h =
+    let e : get_or (take (96 * j + 96 - 96 * j) (drop (96 * j) m)) i (pos 0) ≡ get_or m (96 * j + i) (pos 0) =
+    get_or-take (96 * j + 96 - 96 * j) (drop (96 * j) m) i (pos 0) (omega arith) ∙ get_or-drop (96 * j) m i (pos 0) in
+    back w8 h ∙ e ∙ sym (entries_in m i j hi hj)

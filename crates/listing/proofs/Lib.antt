@@ -1,7 +1,8 @@
 -- The texts of numbers and of faces
 mod Decimals
-mod Wholes
 mod Faces
+-- Which stops have a place
+mod Stops
 -- Lines of columns, one after the other
 mod Columns
 -- The printed result by its lines

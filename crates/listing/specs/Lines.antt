@@ -1,11 +1,15 @@
 -- The lines of the printed result, one by one, and what putting one needs and leaves.
-use Rattle.std.specs.Prelude.{◌≡◌, true, List, ◌++◌, ℕ, ◌+◌, ◌<◌, ◌≤◌, ℤ, nat_abs, length}
+use Rattle.std.specs.Prelude.{◌≡◌, true, List, ◌++◌, ℕ, ◌+◌, ◌<◌, ◌≤◌, ℤ, length}
 use Rattle.maths.specs.Buffers.{Put}
 use Rattle.rules.specs.declared.counts.Counts.{Counts}
 use Rattle.rules.specs.Counts.{count_of}
 use Rattle.rules.specs.Form.{is_fault}
 use Rattle.rules.specs.Printed.{text, line, decimal, whole, place_text}
 use Rattle.grid.specs.Grid.{Line}
+
+-- a refusal, and the place of a fault
+unfoldable pub stop_text : ℕ → ℕ → List ℕ
+stop_text refusal place = text " refusal " ++ (decimal refusal ++ place_text refusal place)
 
 -- the first line of a run: how many operators ran, the refusal, and the place of a fault
 unfoldable pub ran_line : ℕ → ℕ → ℕ → List ℕ
@@ -24,16 +28,6 @@ euler_line z = text "euler " ++ (whole z ++ line)
 pub record PutWithin (k : ℕ) (before : List ℕ) (at : ℕ) (text : List ℕ) (next : ℕ) (after : List ℕ) : Type 0 where
   pub put : Put before at text next after
   pub most : next ≤ at + k
-
--- a number that can be printed, and room for k bytes
-pub record NumberRoom (n : ℕ) (out : List ℕ) (at k : ℕ) : Type 0 where
-  pub small : n < 100_000
-  pub room : at + k ≤ length out
-
--- the same with a sign
-pub record WholeRoom (z : ℤ) (out : List ℕ) (at k : ℕ) : Type 0 where
-  pub small : nat_abs z < 10_000
-  pub room : at + k ≤ length out
 
 -- a fault's place has 16 bits
 abbrev pub PlaceSmall : ℕ → ℕ → Type 0

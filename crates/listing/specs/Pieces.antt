@@ -1,5 +1,5 @@
 -- The text of each piece of the printed result, and what putting one needs.
-use Rattle.std.specs.Prelude.{List, ◌++◌, ℕ, ◌+◌, ◌*◌, ◌<◌, ◌≤◌, ℤ, nat_abs, length}
+use Rattle.std.specs.Prelude.{List, ◌++◌, ℕ, ◌+◌, ◌*◌, ◌≤◌, ℤ, length}
 use Rattle.maths.specs.Sums.{join}
 use Rattle.maths.specs.Tables.{column}
 use Rattle.rules.specs.declared.counts.Counts.{Counts}
@@ -21,9 +21,3 @@ run_text ran refusal place c z m = ran_line ran refusal place ++ (cells_line c +
 pub record LinesRoom (k : ℕ) (m : List ℤ) (n : ℕ) (out : List ℕ) (at : ℕ) : Type 0 where
   pub columns : Columns m n
   pub room : at + 96 * k ≤ length out
-
--- numbers that can be printed, and room for three lines and the seams
-pub record RunRoom (ran : ℕ) (c : Counts) (z : ℤ) (m : List ℤ) (out : List ℕ) : Type 0 where
-  pub ran-small : ran < 10_000
-  pub euler-small : nat_abs z < 10_000
-  pub seams : LinesRoom 32 m (count_of c 1) out 104

@@ -1,12 +1,15 @@
 // The printed result in three pieces, each put at the front of a buffer: what comes before the panels, the panels, and the blocks. The answer is how long the piece is.
 ghost use Rattle.std.specs.Prelude.{[], ◌∷◌};
 ghost use Rattle.maths.specs.Buffers.{Put};
+ghost use Rattle.rules.specs.Counts.{count_of};
+ghost use Rattle.rules.specs.Told.{stopped_number, stopped_place};
 ghost use Rattle.rules.specs.Printed.{seam_line, cell_line};
 ghost use Rattle.listing.specs.Lines.{PlaceSmall};
-ghost use Rattle.listing.specs.Pieces.{column_lines, run_text, LinesRoom, RunRoom};
+ghost use Rattle.listing.specs.Pieces.{column_lines, run_text, LinesRoom};
 
 use crate::lines::{line_cell, line_cells, line_euler, line_ran, line_seam};
-use rules::counts::Counts;
+use rules::answers::ScriptRun;
+use rules::pattern::View;
 
 // A line for each of the n seams, at a place.
 fn put_seams(out: &mut [u8], at: usize, n: u8, m: &[i8]) -> usize
@@ -14,31 +17,22 @@ fn put_seams(out: &mut [u8], at: usize, n: u8, m: &[i8]) -> usize
     ensures { Put out.old at (column_lines seam_line n m.now) result out.new }
 {
     let mut next = at;
-    for j in 0..n as usize {
+    for j in 0..n {
         next = line_seam(out, next, j, m);
     }
     next
 }
 
-// How a run ended, the counts, the Euler number and the seams.
-pub fn put_run(
-    out: &mut [u8],
-    ran: u16,
-    refusal: u8,
-    place: u32,
-    c: Counts,
-    z: i16,
-    m: &[i8],
-) -> usize
-    requires run_room { RunRoom ran c z m.now out.old }
-    requires place_small { PlaceSmall refusal place }
-    ensures { Put out.old 0 (run_text ran refusal place c z m.now) result out.new }
+// How a script ended, the counts, the Euler number z and the seams.
+pub fn put_run(out: &mut [u8], run: ScriptRun, z: i16, p: View) -> usize
+    requires room { LinesRoom 32 p.m1.now (count_of p.counts 1) out.old 104 }
+    requires place_small { PlaceSmall (stopped_number run.ended) (stopped_place run.ended) }
+    ensures { Put out.old 0 (run_text run.ran (stopped_number run.ended) (stopped_place run.ended) p.entry.counts z p.entry.m1.now) result out.new }
 {
-    let n = c.n;
-    let mut next = line_ran(out, 0, ran, refusal, place);
-    next = line_cells(out, next, c);
+    let mut next = line_ran(out, 0, run.ran, run.ended);
+    next = line_cells(out, next, p.counts);
     next = line_euler(out, next, z);
-    put_seams(out, next, n[1], m)
+    put_seams(out, next, p.counts.n[1], p.m1)
 }
 
 // A line for each of the n panels or blocks, as the letter says.
@@ -47,7 +41,7 @@ pub fn put_cells(out: &mut [u8], letter: u8, n: u8, m: &[i8]) -> usize
     ensures { Put out.old 0 (column_lines (cell_line (letter ∷ [])) n m.now) result out.new }
 {
     let mut next = 0;
-    for j in 0..n as usize {
+    for j in 0..n {
         next = line_cell(out, next, letter, j, m);
     }
     next

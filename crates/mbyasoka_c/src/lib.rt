@@ -2,9 +2,9 @@
 #![tactic(auto)]
 
 ghost use Rattle.std.specs.Prelude.{◌≡◌};
-ghost use Rattle.rules.specs.Complex.{counts_of, empty};
+ghost use Rattle.rules.specs.Complex.{counts_of, empty, pattern};
 ghost use Rattle.rules.specs.Calls.{read_call, write_call, euler_call, apply_call, run_call, given, boundary_call, carry_call};
-ghost use Rattle.rules.specs.Lending.{at_entry, left};
+ghost use Rattle.rules.specs.Lending.{left};
 ghost use Rattle.good.specs.Tested.{tested};
 ghost use Rattle.off.specs.Calls.{import_call, export_call};
 ghost use Rattle.off.specs.Wholes.{imported};
@@ -29,7 +29,7 @@ pub extern "C" fn mbyasoka_read_mesh(
     used: &mut usize,
     place: &mut u32,
 ) -> u8
-    ensures { left (record { counts = counts_left counts.new; used = used.new; refusal = result; place = place.new }) m1.new m2.new m3.new ≡ read_call s.now (at_entry (counts_of empty) m1.old m2.old m3.old) }
+    ensures { left (record { counts = counts_left counts.new; used = used.new; refusal = result; place = place.new }) m1.new m2.new m3.new ≡ read_call s.now (pattern (counts_of empty) m1.old m2.old m3.old) }
 {
     mbyasoka::mbyasoka_read_mesh(counts, m1, m2, m3, s, used, place)
 }
@@ -139,7 +139,7 @@ pub extern "C" fn mbyasoka_import_off(
     coordinates: &mut [i32],
     s: &[u8],
 ) -> u8
-    ensures { imported (record { counts = counts_left counts.new; refusal = result }) m1.new m2.new m3.new coordinates.new ≡ import_call s.now (at_entry (counts_of empty) m1.old m2.old m3.old) coordinates.old }
+    ensures { imported (record { counts = counts_left counts.new; refusal = result }) m1.new m2.new m3.new coordinates.new ≡ import_call s.now (pattern (counts_of empty) m1.old m2.old m3.old) coordinates.old }
 {
     mbyasoka::mbyasoka_import_off(counts, m1, m2, m3, coordinates, s)
 }

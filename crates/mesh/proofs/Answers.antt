@@ -1,6 +1,5 @@
 -- What the writer answers, case by case: refused by the pattern's test, refused by the buffer, written.
 use mathlib.Core.Path.{◌≡◌}
-use mathlib.Core.Logic.{◌≢◌}
 use mathlib.Core.List.{List}
 use Prim.Native.Nat.{ℕ, ◌<◌, ◌≤◌}
 use native.Mathlib.Omega.{arith}
@@ -8,12 +7,15 @@ use lib.ListN.{length}
 use borrow.Author.Tests.{le-leb, lt-leb}
 use Rattle.maths.specs.Buffers.{Put}
 use Rattle.maths.proofs.Buffers.{at_front}
+use Rattle.rules.specs.declared.refusals.Refusal.{Refusal}
 use Rattle.rules.specs.Refusals.{accepted, short_output}
 use Rattle.rules.specs.Complex.{Pattern, complex}
 use Rattle.rules.specs.Mesh.{write_mesh}
 use Rattle.rules.specs.Calls.{Wrote, write_call}
 use Rattle.rules.proofs.Branches.FirstTests.{both_passed, first-refused}
+use Rattle.rules.specs.Told.{refusal_number}
 use Rattle.good.specs.Tested.{tested}
+use Rattle.rules.proofs.Branches.Refused.{not_accepted}
 
 -- the writer refuses by r
 abbrev refused_by : List ℕ → ℕ → Wrote
@@ -22,9 +24,9 @@ refused_by out r = record { answer = record { written = 0; refusal = r }; out = 
 module _ (p : Pattern) where
   module _ (out : List ℕ) where
     -- 1 or 2
-    pub refused-pattern : {r : ℕ} → r ≡ tested p → r ≢ accepted → refused_by out r ≡ write_call p out
+    pub refused-pattern : (r : Refusal) → refusal_number r ≡ tested p → refused_by out (refusal_number r) ≡ write_call p out
     unfolding tested write_call
-    refused-pattern e n = first-refused p (refused_by out) _ e n
+    refused-pattern r e = first-refused p (refused_by out) _ e (not_accepted r)
 
     -- 15
     pub refused_buffer : tested p ≡ accepted → length out < length (write_mesh (complex p)) → refused_by out short_output ≡ write_call p out

@@ -1,3 +1,5 @@
+-- No refusal has the number 0
+pub mod Numbers
 -- Parts of the reading, and the whole
 pub mod Parts
 pub mod Wholes

@@ -1,97 +1,46 @@
 // Reading the cells of a section, each as make reads and judges it.
 ghost use Rattle.maths.specs.Repeat.{repeat};
-ghost use Rattle.rules.specs.Complex.{complex};
 ghost use Rattle.rules.specs.Mesh.{read_cell, read_section};
-ghost use Rattle.rules.specs.Lending.{as_lent, at_entry, at_exit};
-ghost use Rattle.mesh.specs.Reading.{Readable, PartRead};
+ghost use Rattle.rules.specs.Lending.{lent_by, SameLoans};
+ghost use Rattle.mesh.specs.Reading.{Readable, reached, PartRead};
 
-use crate::part::{Part, faulty};
 use form::fields::byte_form;
 use form::operators::make_form;
 use maths::SIDE;
 use operators::make::make;
-use rules::counts::Counts;
-use rules::form::{Field, OperatorForm};
-use rules::refusals::{ACCEPTED, NO_PLACE};
+use rules::pattern::Pattern;
+use rules::refusals::Stop;
 
-// The cell of dimension k at `at`; `next` is the place after it.
-fn read_cell(
-    c: Counts,
-    k: u8,
-    s: &[u8],
-    at: usize,
-    m1: &mut [i8],
-    m2: &mut [i8],
-    m3: &mut [i8],
-) -> Part
-    requires { Readable k (as_lent c m1.old m2.old m3.old) }
-    ensures { PartRead (read_cell s.now k (complex (at_entry c m1.old m2.old m3.old), at)) result (at_exit result.counts m1.new m2.new m3.new) }
+// The cell of dimension k that stands at a place, and the place after it.
+fn read_cell(p: &mut Pattern, k: u8, s: &[u8], at: usize) -> Result<usize, Stop>
+    requires { Readable k (lent_by p.old) }
+    ensures does { PartRead (read_cell s.now k (reached (lent_by p.old) at)) result (lent_by p.new) }
+    ensures same { SameLoans p.old p.new }
 {
-    match make_form(s, k, at) {
-        OperatorForm::Bad(f) => faulty(c, f),
-        OperatorForm::Decoded(_, next) => {
-            let made = make(c, k, s, at, m1, m2, m3);
-            let counts = made.counts;
-            Part {
-                counts,
-                next,
-                refusal: made.refusal,
-                place: NO_PLACE as usize,
-            }
-        }
-    }
+    let (_, next) = make_form(s, k, at)?;
+    make(p, k, s, at)?;
+    Ok(next)
 }
 
-// n cells of dimension k from `at` on.
-fn read_cells(
-    c: Counts,
-    k: u8,
-    n: usize,
-    s: &[u8],
-    at: usize,
-    m1: &mut [i8],
-    m2: &mut [i8],
-    m3: &mut [i8],
-) -> Part
-    requires { Readable k (as_lent c m1.old m2.old m3.old) }
-    ensures { PartRead (λ go. repeat (read_cell s.now k) go n (complex (at_entry c m1.old m2.old m3.old), at)) result (at_exit result.counts m1.new m2.new m3.new) }
+// The n cells of dimension k from a place on, and the place after them.
+fn read_cells(p: &mut Pattern, k: u8, n: usize, s: &[u8], at: usize) -> Result<usize, Stop>
+    requires { Readable k (lent_by p.old) }
+    ensures does { PartRead (λ go. repeat (read_cell s.now k) go n (reached (lent_by p.old) at)) result (lent_by p.new) }
+    ensures same { SameLoans p.old p.new }
 {
-    let mut counts = c;
     let mut place = at;
-    let mut left = n;
-    while 0 < left {
-        let cell = read_cell(counts, k, s, place, m1, m2, m3);
-        if cell.refusal != ACCEPTED {
-            return cell;
-        }
-        let next = cell.counts;
-        counts = next;
-        place = cell.next;
-        left -= 1;
+    for _ in 0..n {
+        place = read_cell(p, k, s, place)?;
     }
-    Part {
-        counts,
-        next: place,
-        refusal: ACCEPTED,
-        place: NO_PLACE as usize,
-    }
+    Ok(place)
 }
 
-// A count at `at`, and that many cells of dimension k.
-pub(crate) fn read_section(
-    c: Counts,
-    k: u8,
-    s: &[u8],
-    at: usize,
-    m1: &mut [i8],
-    m2: &mut [i8],
-    m3: &mut [i8],
-) -> Part
-    requires { Readable k (as_lent c m1.old m2.old m3.old) }
-    ensures { PartRead (read_section s.now k (complex (at_entry c m1.old m2.old m3.old), at)) result (at_exit result.counts m1.new m2.new m3.new) }
+// The section at a place, a count and that many cells of dimension k, and the place after it.
+pub(crate) fn read_section(p: &mut Pattern, k: u8, s: &[u8], at: usize) -> Result<usize, Stop>
+    requires { Readable k (lent_by p.old) }
+    ensures does { PartRead (read_section s.now k (reached (lent_by p.old) at)) result (lent_by p.new) }
+    ensures same { SameLoans p.old p.new }
 {
-    match byte_form(s, at, 0, SIDE) {
-        Field::Bad(f) => faulty(c, f),
-        Field::Got(n) => read_cells(c, k, n, s, at + 1, m1, m2, m3),
-    }
+    let n = byte_form(s, at, 0, SIDE)?;
+    read_cells(p, k, n, s, at + 1)
 }

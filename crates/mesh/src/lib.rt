@@ -2,6 +2,5 @@
 #![tactic(auto)]
 
 mod cells;
-pub mod part;
 pub mod reader;
 pub mod writer;

@@ -1,108 +1,72 @@
 // Reading a mesh: the corner count, and the sections of seams, panels and blocks.
-ghost use Rattle.std.specs.Prelude.{◌≡◌, ◌+◌};
-ghost use Rattle.rules.specs.Complex.{Sized, counts_of, empty};
-ghost use Rattle.rules.specs.Calls.{no_mesh, read_call};
-ghost use Rattle.rules.specs.Lending.{as_lent, at_entry, at_exit, left};
-ghost use Rattle.mesh.specs.Reading.{zeros, Zeros, ReadUpTo, NextSection};
+ghost use Rattle.std.specs.Prelude.{◌≡◌};
+ghost use Rattle.rules.specs.Complex.{Sized, empty, stored};
+ghost use Rattle.rules.specs.Calls.{read_call};
+ghost use Rattle.rules.specs.Lending.{lent_by, mesh_read, SameLoans};
+ghost use Rattle.mesh.specs.Reading.{ReadUpTo};
 
 use crate::cells::read_section;
-use crate::part::{Part, faulty};
 use form::fields::byte_form;
 use good::is_sized;
 use grid::changes::clear;
 use maths::SIDE;
-use rules::answers::MeshRead;
 use rules::counts::Counts;
-use rules::form::Field;
-use rules::refusals::{ACCEPTED, NO_PLACE, WRONG_LENGTH};
+use rules::pattern::Pattern;
+use rules::refusals::{Refusal, Stop};
 
-// No mesh: counts 0, and 0 bytes used.
-fn refused(refusal: u8, place: u32) -> MeshRead
-    ensures { result ≡ no_mesh refusal place }
+// The corner count of a mesh is taken into an empty pattern.
+fn read_corners(p: &mut Pattern, s: &[u8]) -> Result<usize, Stop>
+    requires { lent_by p.old ≡ stored empty }
+    ensures does { ReadUpTo s.now 1 result (lent_by p.new) }
+    ensures same { SameLoans p.old p.new }
 {
-    let none = Counts { n: [0, 0, 0, 0] };
-    MeshRead {
-        counts: none,
-        used: 0,
-        refusal,
-        place,
-    }
+    let n = byte_form(s, 0, 0, SIDE)?;
+    p.counts = Counts {
+        n: [n as u8, 0, 0, 0],
+    };
+    Ok(1)
 }
 
-// The corner count.
-fn read_corners(s: &[u8]) -> Part
-    ensures { ReadUpTo s.now 1 result (zeros result.counts) }
+// All of the mesh, into an empty pattern.
+fn read_sections(p: &mut Pattern, s: &[u8]) -> Result<usize, Stop>
+    requires { lent_by p.old ≡ stored empty }
+    ensures does { ReadUpTo s.now 4 result (lent_by p.new) }
+    ensures same { SameLoans p.old p.new }
 {
-    match byte_form(s, 0, 0, SIDE) {
-        Field::Bad(f) => {
-            let none = Counts { n: [0, 0, 0, 0] };
-            faulty(none, f)
+    let mut next = read_corners(p, s)?;
+    for k in 1..4 {
+        next = read_section(p, k, s, next)?;
+    }
+    Ok(next)
+}
+
+// The pattern becomes empty.
+fn clear_all(p: &mut Pattern)
+    requires { Sized (lent_by p.old) }
+    ensures does { lent_by p.new ≡ stored empty }
+    ensures same { SameLoans p.old p.new }
+{
+    p.counts = Counts { n: [0; 4] };
+    clear(p.m1);
+    clear(p.m2);
+    clear(p.m3);
+}
+
+// Reads a mesh into a pattern, and answers how many bytes it took. Every refusal leaves the counts 0, and but that of their lengths the matrices zero.
+pub fn read_mesh(p: &mut Pattern, s: &[u8]) -> Result<usize, Stop>
+    ensures does { mesh_read result p.new ≡ read_call s.now (lent_by p.old) }
+    ensures same { SameLoans p.old p.new }
+{
+    if !is_sized(p.view()) {
+        p.counts = Counts { n: [0; 4] };
+        return Err(Stop::Meaning(Refusal::WrongLength));
+    }
+    clear_all(p);
+    match read_sections(p, s) {
+        Ok(used) => Ok(used),
+        Err(stop) => {
+            clear_all(p);
+            Err(stop)
         }
-        Field::Got(n) => {
-            let corners = Counts {
-                n: [n as u8, 0, 0, 0],
-            };
-            Part {
-                counts: corners,
-                next: 1,
-                refusal: ACCEPTED,
-                place: NO_PLACE as usize,
-            }
-        }
-    }
-}
-
-// The section of dimension k, if those before it were read.
-fn read_next(before: Part, k: u8, s: &[u8], m1: &mut [i8], m2: &mut [i8], m3: &mut [i8]) -> Part
-    requires { NextSection s.now k before (as_lent before.counts m1.old m2.old m3.old) }
-    ensures { ReadUpTo s.now (k + 1) result (at_exit result.counts m1.new m2.new m3.new) }
-{
-    if before.refusal != ACCEPTED {
-        return before;
-    }
-    let c = before.counts;
-    read_section(c, k, s, before.next, m1, m2, m3)
-}
-
-// All of the mesh, into matrices of zeros.
-fn read_sections(s: &[u8], m1: &mut [i8], m2: &mut [i8], m3: &mut [i8]) -> Part
-    requires { Zeros m1.old m2.old m3.old }
-    ensures { ReadUpTo s.now 4 result (at_exit result.counts m1.new m2.new m3.new) }
-{
-    let corners = read_corners(s);
-    let seams = read_next(corners, 1, s, m1, m2, m3);
-    let panels = read_next(seams, 2, s, m1, m2, m3);
-    read_next(panels, 3, s, m1, m2, m3)
-}
-
-// Every entry of the three matrices becomes 0.
-fn clear_all(m1: &mut [i8], m2: &mut [i8], m3: &mut [i8])
-    requires { Sized (as_lent (counts_of empty) m1.old m2.old m3.old) }
-    ensures { Zeros m1.new m2.new m3.new }
-{
-    clear(m1);
-    clear(m2);
-    clear(m3);
-}
-
-// Reads a mesh into three matrices. Every refusal but that of their lengths leaves them zero.
-pub fn read_mesh(s: &[u8], m1: &mut [i8], m2: &mut [i8], m3: &mut [i8]) -> MeshRead
-    ensures { left result m1.new m2.new m3.new ≡ read_call s.now (at_entry (counts_of empty) m1.old m2.old m3.old) }
-{
-    if !is_sized(m1, m2, m3) {
-        return refused(WRONG_LENGTH, NO_PLACE);
-    }
-    clear_all(m1, m2, m3);
-    let read = read_sections(s, m1, m2, m3);
-    if read.refusal != ACCEPTED {
-        clear_all(m1, m2, m3);
-        return refused(read.refusal, read.place as u32);
-    }
-    let counts = read.counts;
-    MeshRead {
-        counts,
-        used: read.next,
-        refusal: ACCEPTED,
-        place: NO_PLACE,
     }
 }

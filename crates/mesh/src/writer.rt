@@ -6,21 +6,21 @@ ghost use Rattle.maths.specs.Buffers.{Put, Fits};
 ghost use Rattle.rules.specs.Complex.{complex};
 ghost use Rattle.rules.specs.Mesh.{pair, each_face, write_cell, write_mesh, one_face};
 ghost use Rattle.rules.specs.Calls.{write_call};
-ghost use Rattle.rules.specs.Lending.{as_lent, at_entry};
+ghost use Rattle.rules.specs.Told.{written_told};
+ghost use Rattle.rules.specs.Lending.{seen_by};
 ghost use Rattle.rules.specs.Good.{Held};
 ghost use Rattle.grid.specs.Grid.{Line, Columns};
 ghost use Rattle.mesh.specs.Writing.{seam_text, list_text, section_text, ColumnFits, ColumnsFit, MeshFits};
 
 use buffer::{put, put_two};
 use good::refusal_of_pattern;
-use grid::byte::{eq8, is_zero8};
 use grid::tests::{column_count, column_last};
 use maths::SIDE;
-use rules::answers::MeshWritten;
-use rules::counts::Counts;
-use rules::refusals::{ACCEPTED, SHORT_OUTPUT};
+use rules::pattern::View;
+use rules::refusals::Refusal;
 
 // How long cell j of dimension k is.
+#[tactic(auto, using(crate::proofs::CellTexts::faces_length), unfolding(rules::specs::Mesh::write_cell))]
 fn cell_length(m: &[i8], k: usize, j: usize) -> usize
     requires { Line m.now j }
     ensures { result ≡ length (write_cell k (column m.now j)) }
@@ -37,38 +37,36 @@ fn section_length(m: &[i8], k: usize, n: u8) -> usize
     requires { Columns m.now n }
     ensures { result ≡ length (section_text k m.now n) }
 {
-    let mut sum = 1;
-    for j in 0..n as usize {
-        sum += cell_length(m, k, j);
-    }
-    sum
+    1 + (0..n as usize).map(|j| cell_length(m, k, j)).sum::<usize>()
 }
 
 // How long the mesh is.
-fn mesh_length(c: Counts, m1: &[i8], m2: &[i8], m3: &[i8]) -> usize
-    requires { Held (as_lent c m1.now m2.now m3.now) }
-    ensures { result ≡ length (write_mesh (complex (at_entry c m1.now m2.now m3.now))) }
+fn mesh_length(p: View) -> usize
+    requires { Held (seen_by p) }
+    ensures { result ≡ length (write_mesh (complex (seen_by p.entry))) }
 {
-    let n = c.n;
-    let seams = section_length(m1, 1, n[1]);
-    let panels = section_length(m2, 2, n[2]);
-    let blocks = section_length(m3, 3, n[3]);
+    let n = p.counts.n;
+    let seams = section_length(p.m1, 1, n[1]);
+    let panels = section_length(p.m2, 2, n[2]);
+    let blocks = section_length(p.m3, 3, n[3]);
     1 + seams + panels + blocks
 }
 
 // How a sign is written: 1 for plus and 2 for minus.
+#[tactic(auto, unfolding(maths::specs::Tests::eq_z))]
 fn sign_byte(z: i8) -> u8
     ensures { result ≡ cond (eq_z z (pos 1)) 1 2 }
 {
-    if eq8(z, 1) { 1 } else { 2 }
+    if z == 1 { 1 } else { 2 }
 }
 
 // Face i with the entry z, nothing where z is 0, at a place, and the place after it.
+#[tactic(auto, using(maths::proofs::Buffers::no_piece), unfolding(rules::specs::Mesh::one_face, maths::specs::Tests::is_zero, maths::specs::Tests::eq_z))]
 fn put_pair(out: &mut [u8], at: usize, i: u8, z: i8) -> usize
     requires { Fits out.old at (one_face pair i z) }
     ensures { Put out.old at (one_face pair i z) result out.new }
 {
-    if is_zero8(z) {
+    if z == 0 {
         return at;
     }
     put_two(out, at, i, sign_byte(z))
@@ -79,10 +77,9 @@ fn put_pairs(m: &[i8], j: usize, out: &mut [u8], at: usize) -> usize
     requires { ColumnFits m.now j out.old at (each_face pair (column m.now j)) }
     ensures { Put out.old at (each_face pair (column m.now j)) result out.new }
 {
-    let s = SIDE * j;
     let mut next = at;
-    for i in 0..SIDE {
-        next = put_pair(out, next, i as u8, m[s + i]);
+    for (i, z) in m[SIDE * j..SIDE * (j + 1)].iter().enumerate() {
+        next = put_pair(out, next, i as u8, *z);
     }
     next
 }
@@ -108,6 +105,7 @@ fn put_list(m: &[i8], j: usize, out: &mut [u8], at: usize) -> usize
 }
 
 // Cell j of dimension k at a place, and the place after it.
+#[tactic(auto, unfolding(rules::specs::Mesh::write_cell))]
 fn put_cell(m: &[i8], k: usize, j: usize, out: &mut [u8], at: usize) -> usize
     requires { ColumnFits m.now j out.old at (write_cell k (column m.now j)) }
     ensures { Put out.old at (write_cell k (column m.now j)) result out.new }
@@ -132,38 +130,25 @@ fn put_section(m: &[i8], k: usize, n: u8, out: &mut [u8], at: usize) -> usize
 }
 
 // The mesh at the front of the buffer, and the place after it.
-fn put_mesh(c: Counts, m1: &[i8], m2: &[i8], m3: &[i8], out: &mut [u8]) -> usize
-    requires { MeshFits (as_lent c m1.now m2.now m3.now) out.old }
-    ensures { Put out.old 0 (write_mesh (complex (at_entry c m1.now m2.now m3.now))) result out.new }
+fn put_mesh(p: View, out: &mut [u8]) -> usize
+    requires { MeshFits (seen_by p) out.old }
+    ensures { Put out.old 0 (write_mesh (complex (seen_by p.entry))) result out.new }
 {
-    let n = c.n;
+    let n = p.counts.n;
     let seams = put(out, 0, n[0]);
-    let panels = put_section(m1, 1, n[1], out, seams);
-    let blocks = put_section(m2, 2, n[2], out, panels);
-    put_section(m3, 3, n[3], out, blocks)
+    let panels = put_section(p.m1, 1, n[1], out, seams);
+    let blocks = put_section(p.m2, 2, n[2], out, panels);
+    put_section(p.m3, 3, n[3], out, blocks)
 }
 
 // A lent pattern is written as a mesh to the first bytes of the buffer, or refused by 1, 2 or 15, in this order, and then no byte is touched.
-pub fn write_mesh(c: Counts, m1: &[i8], m2: &[i8], m3: &[i8], out: &mut [u8]) -> MeshWritten
-    ensures { record { answer = result; out = out.new } ≡ write_call (at_entry c m1.now m2.now m3.now) out.old }
+pub fn write_mesh(p: View, out: &mut [u8]) -> Result<usize, Refusal>
+    ensures { record { answer = written_told result; out = out.new } ≡ write_call (seen_by p.entry) out.old }
 {
-    let refusal = refusal_of_pattern(c, m1, m2, m3);
-    if refusal != ACCEPTED {
-        return MeshWritten {
-            written: 0,
-            refusal,
-        };
+    refusal_of_pattern(p)?;
+    if out.len() < mesh_length(p) {
+        return Err(Refusal::ShortOutput);
     }
-    let length = mesh_length(c, m1, m2, m3);
-    if out.len() < length {
-        return MeshWritten {
-            written: 0,
-            refusal: SHORT_OUTPUT,
-        };
-    }
-    let written = put_mesh(c, m1, m2, m3, out);
-    MeshWritten {
-        written,
-        refusal: ACCEPTED,
-    }
+    let written = put_mesh(p, out);
+    Ok(written)
 }

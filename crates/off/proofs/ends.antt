@@ -1,3 +1,4 @@
 pub mod SameWays
 pub mod SameEnds
 pub mod EndsFound
+pub mod FrontAll

@@ -1,4 +1,4 @@
 pub mod Decimal
 pub mod Signs
 pub mod LineLengths
-pub mod FirstBytes
+pub mod RingLine

@@ -1,2 +1,2 @@
 pub mod TextParts
-pub mod RingsPut
+pub mod Numbers

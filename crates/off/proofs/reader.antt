@@ -1,2 +1,3 @@
 pub mod TextAnswers
 pub mod ImportAnswers
+pub mod Laid

@@ -1,5 +1,6 @@
+pub mod Answered
 pub mod NextCorners
 pub mod Steps
 pub mod Walked
-pub mod Closing
 pub mod Measuring
+pub mod PanelWalk

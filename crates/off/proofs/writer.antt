@@ -1,4 +1,3 @@
 pub mod Nearness
-pub mod Coordinates
 pub mod TextTaken
 pub mod ExportAnswers

@@ -4,8 +4,7 @@ use Rattle.maths.specs.Tables.{table}
 use Rattle.rules.specs.Refusals.{accepted, wrong_length, short_output, wrong_off, not_plain}
 use Rattle.rules.specs.Complex.{Pattern, Complex, complex, empty, stored}
 use Rattle.rules.specs.Calls.{sized, on_good}
-use Rattle.off.specs.declared.answers.Imported.{Imported}
-use Rattle.off.specs.declared.answers.Exported.{Exported}
+use Rattle.off.specs.Answers.{Imported, Exported}
 use Rattle.off.specs.Words.{after_found}
 use Rattle.off.specs.Plain.{read_off}
 use Rattle.off.specs.Sewing.{sew, after_sewn}

@@ -3,9 +3,9 @@ pub mod Plain
 pub mod Rings
 pub mod Sewing
 pub mod Exporting
+pub mod Answers
 pub mod Calls
 pub mod Reading
-pub mod Taking
 pub mod RingBytes
 pub mod Lying
 pub mod Wholes

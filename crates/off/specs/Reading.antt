@@ -1,50 +1,52 @@
--- What the code that reads an OFF text answers, in the words of the definitions.
-use Rattle.std.specs.Prelude.{◌≡◌, Bool, true, cond, List, ℕ, ◌≤◌, ℤ, pos, length, drop, take}
-use Rattle.off.specs.declared.words.Number.{Number}
-use Rattle.off.specs.declared.words.Signed.{Signed}
+-- What the code that reads an OFF text needs and answers, in the words of the definitions.
+use Rattle.std.specs.Prelude.{◌≡◌, true, List, ℕ, ◌+◌, ◌-◌, ◌*◌, ◌<◌, ◌≤◌, ℤ, length, get_or, take, Option, None, Some}
+use Rattle.std.specs.Borrow.{Bor}
+use Rattle.std.specs.List.{fold}
 use Rattle.off.specs.declared.lines.RingRead.{RingRead}
-use Rattle.off.specs.declared.lines.CornersRead.{CornersRead}
-use Rattle.off.specs.Words.{Found, none, found, skipped, limited, minus}
+use Rattle.off.specs.Words.{Text, Found, none, found, is_digit}
 use Rattle.off.specs.Plain.{Ring}
 use Rattle.off.specs.Rings.{corners_below}
-use Rattle.off.specs.Calls.{laid}
 
--- a number and a coordinate that were read, and the text after them
-abbrev pub number_found : List ℕ → Number → Found ℕ
-number_found s Number.None = none
-number_found s (Number.Found n next) = found n (drop next s)
+-- what was read, and the text after it
+abbrev pub found_of : {A : Type 0} → Option (A × Bor Text) → Found A
+found_of None = none
+found_of (Some (x, rest)) = found x rest.now
 
-abbrev pub coordinate_found : List ℕ → Signed → Found ℤ
-coordinate_found s Signed.None = none
-coordinate_found s (Signed.Found z next) = found z (drop next s)
+-- the text after the keyword
+abbrev pub keyword_found : Option (Bor Text) → Found ℕ
+keyword_found None = none
+keyword_found (Some rest) = found 0 rest.now
 
--- the number x as a coordinate, whatever the text that it was read from
-pub record IsLimited (x : Number) (negative : Bool) (r : Signed) : Type 0 where
-  pub is : (s : List ℕ) → coordinate_found s r ≡ limited (λ n. cond negative (minus n) (pos n)) (number_found s x)
+-- the value of digits after those of the value n
+abbrev pub value_from : ℕ → List ℕ → ℕ
+value_from n digits = fold (λ n b. 10 * n + (b - 0x30)) n digits
 
--- blanks are skipped from `at` to `next`
-pub record Skipped (s : List ℕ) (at next : ℕ) : Type 0 where
-  pub is : drop next s ≡ skipped (drop at s)
-  pub near : at ≤ length s → next ≤ length s
+-- at most seven digits
+pub record FewDigits (digits : List ℕ) : Type 0 where
+  pub few : length digits ≤ 7
+  pub all : (k : ℕ) → k < length digits → is_digit (get_or digits k 0) ≡ true
 
--- the coordinates that were read lie in the list
-pub record CornersHere (s : List ℕ) (x : Found (List ℤ)) (next : ℕ) (list : List ℤ) : Type 0 where
-  pub all : List ℤ
-  pub is : x ≡ found all (drop next s)
-  pub lie : list ≡ laid all
+-- coordinates that were read stand in the list
+abbrev pub CoordinatesTaken : Found (List ℤ) → Option (Bor Text) → List ℤ → Type 0
+CoordinatesTaken x None list = x ≡ none
+CoordinatesTaken x (Some rest) list = x ≡ found list rest.now
 
-abbrev pub CornersTaken : List ℕ → Found (List ℤ) → CornersRead → List ℤ → Type 0
-CornersTaken s x CornersRead.None list = x ≡ none
-CornersTaken s x (CornersRead.Found next) list = CornersHere s x next list
+-- 96 bytes for a ring, whose corners are below the limit
+pub record RingRoom (limit : ℕ) (bytes : List ℕ) : Type 0 where
+  pub room : length bytes ≡ 96
+  pub small : limit ≤ 96
 
--- a ring that was read: how many corners it has, whether all are below the limit, and then they stand in the 96 bytes, if they have room there
-pub record RingHere (s : List ℕ) (limit : ℕ) (x : Found Ring) (below : Bool) (n next : ℕ) (bytes : List ℕ) : Type 0 where
+-- the ring that was read: if its corners are below the limit, and have room in the 96 bytes, they stand there
+pub record IsRead (limit : ℕ) (ring : Ring) (read : RingRead) (bytes : List ℕ) : Type 0 where
+  pub long : length ring ≡ read.length
+  pub low : read.below ≡ corners_below limit ring
+  pub stand : read.below ≡ true → read.length ≤ 96 → take read.length bytes ≡ ring
+
+pub record RingHere (limit : ℕ) (x : Found Ring) (read : RingRead) (rest : Text) (bytes : List ℕ) : Type 0 where
   pub ring : Ring
-  pub is : x ≡ found ring (drop next s)
-  pub long : length ring ≡ n
-  pub low : below ≡ corners_below limit ring
-  pub stand : below ≡ true → n ≤ 96 → take n bytes ≡ ring
+  pub is : x ≡ found ring rest
+  pub here : IsRead limit ring read bytes
 
-abbrev pub RingTaken : List ℕ → ℕ → Found Ring → RingRead → List ℕ → Type 0
-RingTaken s limit x RingRead.None bytes = x ≡ none
-RingTaken s limit x (RingRead.Found below n next) bytes = RingHere s limit x below n next bytes
+abbrev pub RingTaken : ℕ → Found Ring → Option (RingRead × Bor Text) → List ℕ → Type 0
+RingTaken limit x None bytes = x ≡ none
+RingTaken limit x (Some (read, rest)) bytes = RingHere limit x read rest.now bytes

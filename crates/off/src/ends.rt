@@ -1,53 +1,63 @@
 // The two ends of every seam, as bytes.
-ghost use Rattle.std.specs.Prelude.{◌≡◌};
+ghost use Rattle.std.specs.Prelude.{◌≡◌, ◌<◌, length};
 ghost use Rattle.maths.specs.Tests.{all};
+ghost use Rattle.grid.specs.Grid.{Columns};
 ghost use Rattle.off.specs.Exporting.{is_alone};
-ghost use Rattle.off.specs.Walking.{ends_by, EndsRoom, EndsTaken, EndsLow, AloneRoom, same_ends};
+ghost use Rattle.off.specs.Walking.{ends_by, EndsTaken, same_ends};
 
 use grid::tests::column_last;
 
-// Tails and heads of the n seam columns.
-pub(crate) fn take_ends(m1: &[i8], n: usize, tails: &mut [u8], heads: &mut [u8])
-    requires { EndsRoom m1.now n tails.old heads.old }
-    ensures { EndsTaken m1.now n tails.new heads.new }
-{
-    for j in 0..n {
-        tails[j] = column_last(m1, j, -1) as u8;
-        heads[j] = column_last(m1, j, 1) as u8;
+// The corners that a seam goes from and to.
+#[derive(Clone, Copy, PartialEq, Eq)]
+pub struct Ends {
+    pub tail: u8,
+    pub head: u8,
+}
+
+impl Ends {
+    // The ends of the seam that goes the other way.
+    fn turned(self) -> Ends
+        ensures { result ≡ record { tail = self.head; head = self.tail } }
+    {
+        Ends {
+            tail: self.head,
+            head: self.tail,
+        }
+    }
+
+    // Whether two seams have the same two ends.
+    fn same_ends(self, other: Ends) -> bool
+        ensures { result ≡ same_ends self other }
+    {
+        self == other || self == other.turned()
     }
 }
 
-// Whether two seams have the same two ends.
-fn same_ends(a: u8, b: u8, c: u8, d: u8) -> bool
-    ensures { result ≡ same_ends a b c d }
+// The tails and heads of the first seam columns.
+pub(crate) fn take_ends(m1: &[i8], ends: &mut [Ends])
+    requires { Columns m1.now (length ends.old) }
+    ensures { EndsTaken m1.now ends.new }
 {
-    ((a == c) & (b == d)) | ((a == d) & (b == c))
+    for j in 0..ends.len() {
+        ends[j] = Ends {
+            tail: column_last(m1, j, -1) as u8,
+            head: column_last(m1, j, 1) as u8,
+        };
+    }
 }
 
 // Whether no seam before seam j has its two ends.
-fn is_alone(tails: &[u8], heads: &[u8], j: usize) -> bool
-    requires { AloneRoom tails.now heads.now j }
-    ensures { result ≡ is_alone (ends_by tails.now heads.now) j }
+fn is_alone(ends: &[Ends], j: usize) -> bool
+    requires { j < length ends.now }
+    ensures { result ≡ is_alone (ends_by ends.now) j }
 {
-    let a = tails[j];
-    let b = heads[j];
-    for i in 0..j {
-        if same_ends(tails[i], heads[i], a, b) {
-            return false;
-        }
-    }
-    true
+    let seam = ends[j];
+    ends[..j].iter().all(|other| !other.same_ends(seam))
 }
 
-// Whether no two of the n seams have the same two ends.
-pub(crate) fn all_alone(tails: &[u8], heads: &[u8], n: usize) -> bool
-    requires { EndsLow n tails.now heads.now }
-    ensures { result ≡ all n (is_alone (ends_by tails.now heads.now)) }
+// Whether no two seams have the same two ends.
+pub(crate) fn all_alone(ends: &[Ends]) -> bool
+    ensures { result ≡ all (length ends.now) (is_alone (ends_by ends.now)) }
 {
-    for j in 0..n {
-        if !is_alone(tails, heads, j) {
-            return false;
-        }
-    }
-    true
+    (0..ends.len()).all(|j| is_alone(ends, j))
 }

@@ -1,31 +1,17 @@
 // How long the lines of an OFF text are.
-ghost use Rattle.std.specs.Prelude.{◌≡◌, ◌<◌, ◌≤◌, nat_abs, length, take};
+ghost use Rattle.std.specs.Prelude.{◌≡◌, ◌<◌, ◌≤◌, nat_abs, length};
 ghost use Rattle.maths.specs.Sums.{join};
 ghost use Rattle.off.specs.Words.{farthest};
 ghost use Rattle.off.specs.Exporting.{number, signed, corner_line, ring_line, head_lines};
 ghost use Rattle.off.specs.RingBytes.{Corners};
-ghost use Rattle.off.specs.Writing.{Near, NearAt};
+ghost use Rattle.off.specs.Writing.{Near, NearCorner};
 
 // How many digits n has.
 pub(crate) fn number_length(n: u32) -> usize
     requires { n < 10_000_000 }
     ensures { result ≡ length (number n) }
 {
-    if n < 10 {
-        1
-    } else if n < 100 {
-        2
-    } else if n < 1_000 {
-        3
-    } else if n < 10_000 {
-        4
-    } else if n < 100_000 {
-        5
-    } else if n < 1_000_000 {
-        6
-    } else {
-        7
-    }
+    n.checked_ilog10().unwrap_or(0) as usize + 1
 }
 
 // How long z is with its sign.
@@ -33,21 +19,15 @@ fn signed_length(z: i32) -> usize
     requires { nat_abs z ≤ farthest }
     ensures { result ≡ length (signed z) }
 {
-    if z < 0 {
-        return 1 + number_length((-z) as u32);
-    }
-    number_length(z as u32)
+    number_length(z.unsigned_abs()) + (z < 0) as usize
 }
 
-// How long the line of corner i is.
-fn corner_length(list: &[i32], i: usize) -> usize
-    requires { NearAt list.now i }
-    ensures { result ≡ length (corner_line list.now i) }
+// How long the line of a corner is: three numbers, and a byte after each.
+fn corner_length(corner: &[i32; 3]) -> usize
+    requires { NearCorner corner.now }
+    ensures { result ≡ length (corner_line corner.now 0) }
 {
-    let x = signed_length(list[3 * i]);
-    let y = signed_length(list[3 * i + 1]);
-    let z = signed_length(list[3 * i + 2]);
-    x + y + z + 3
+    corner.iter().map(|&z| signed_length(z) + 1).sum()
 }
 
 // How long the lines of n corners are.
@@ -55,23 +35,17 @@ pub(crate) fn corners_length(list: &[i32], n: usize) -> usize
     requires { Near list.now n }
     ensures { result ≡ length (join n (corner_line list.now)) }
 {
-    let mut length = 0;
-    for i in 0..n {
-        length += corner_length(list, i);
-    }
-    length
+    let (corners, _) = list.as_chunks::<3>();
+    corners[..n].iter().map(corner_length).sum()
 }
 
-// How long the line of the ring of the first n bytes is.
-pub(crate) fn ring_length(bytes: &[u8], n: usize) -> usize
-    requires { Corners bytes.now n }
-    ensures { result ≡ length (ring_line (take n bytes.now)) }
+// How long the line of a ring is.
+pub(crate) fn ring_length(ring: &[u8]) -> usize
+    requires { Corners ring.now }
+    ensures { result ≡ length (ring_line ring.now) }
 {
-    let mut length = number_length(n as u32) + 1;
-    for l in 0..n {
-        length += 1 + number_length(bytes[l] as u32);
-    }
-    length
+    let corners: usize = ring.iter().map(|&c| 1 + number_length(c as u32)).sum();
+    number_length(ring.len() as u32) + corners + 1
 }
 
 // How long the first two lines are.

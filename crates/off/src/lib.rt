@@ -1,7 +1,6 @@
 // OFF texts in and out.
 #![tactic(auto)]
 
-pub mod answers;
 mod ends;
 mod lengths;
 mod lines;

@@ -1,42 +1,31 @@
 // Rings as bytes.
-ghost use Rattle.std.specs.Prelude.{◌≡◌, take};
-ghost use Rattle.off.specs.Rings.{distinct, is_ring, next_at};
-ghost use Rattle.off.specs.RingBytes.{Corners, CornerIn};
+ghost use Rattle.std.specs.Prelude.{◌≡◌};
+ghost use Rattle.off.specs.Rings.{distinct, is_ring};
+ghost use Rattle.off.specs.RingBytes.{Corners};
 
-// Whether the first n corners are distinct.
-fn are_distinct(bytes: &[u8], n: usize) -> bool
-    requires { Corners bytes.now n }
-    ensures { result ≡ distinct (take n bytes.now) }
+use maths::SIDE;
+
+// Whether the corners are distinct.
+fn are_distinct(ring: &[u8]) -> bool
+    requires { Corners ring.now }
+    ensures { result ≡ distinct ring.now }
 {
-    let mut seen = [0u8; 96];
-    for l in 0..n {
-        let c = bytes[l] as usize;
-        if seen[c] != 0 {
+    let mut seen = [false; SIDE];
+    for corner in ring {
+        let c = *corner as usize;
+        if seen[c] {
             return false;
         }
-        seen[c] = 1;
+        seen[c] = true;
     }
     true
 }
 
-// Whether the first n corners are a ring.
-pub(crate) fn is_ring(bytes: &[u8], n: usize) -> bool
-    requires { Corners bytes.now n }
-    ensures { result ≡ is_ring (take n bytes.now) }
+// Whether corners are a ring.
+#[tactic(auto, unfolding(crate::specs::Rings::is_ring))]
+pub(crate) fn is_ring(ring: &[u8]) -> bool
+    requires { Corners ring.now }
+    ensures { result ≡ is_ring ring.now }
 {
-    if n < 3 {
-        return false;
-    }
-    are_distinct(bytes, n)
-}
-
-// The corner after corner l of the first n.
-pub(crate) fn next_corner(bytes: &[u8], n: usize, l: usize) -> usize
-    requires { CornerIn bytes.now n l }
-    ensures { result ≡ next_at (take n bytes.now) l }
-{
-    if l + 1 == n {
-        return bytes[0] as usize;
-    }
-    bytes[l + 1] as usize
+    3 <= ring.len() && are_distinct(ring)
 }

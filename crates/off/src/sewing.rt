@@ -1,23 +1,21 @@
 // A ring is sewn on: the seams that are not there yet are made, and then the panel. Until all rings are sewn, the third matrix has the
 // seams by their two ends.
-ghost use Rattle.std.specs.Prelude.{◌≡◌, pred, nat_abs, take};
+ghost use Rattle.std.specs.Prelude.{◌≡◌, pred, nat_abs};
 ghost use Rattle.maths.specs.Tables.{entries};
 ghost use Rattle.grid.specs.Grid.{over, with_entry};
 ghost use Rattle.off.specs.Sewing.{meet, signum, sew_ring};
 ghost use Rattle.off.specs.Lying.{drawn, Stands, TwoCorners, NewSeam, Joined, RingSeams, SideRoom, SidesRoom, with_sides, RingDrawn, meet_sides, sewn_new};
 
-use crate::answers::Imported;
-use crate::rings::{is_ring, next_corner};
-use grid::byte::is_zero8;
+use crate::rings::is_ring;
 use grid::changes::set_entry;
 use maths::SIDE;
 use rules::counts::Counts;
-use rules::refusals::{ACCEPTED, NO_ROOM, NOT_CLOSED};
+use rules::refusals::Refusal;
 
 // A seam from corner a to corner b is made.
 fn add_seam(c: Counts, a: usize, b: usize, m1: &mut [i8], m3: &mut [i8]) -> Counts
     requires { NewSeam c a b m1.old m3.old }
-    ensures { Joined (sewn_new a b) c m1.old (record { counts = result; refusal = 0 }) m1.new m3.new }
+    ensures { Joined (sewn_new a b) c m1.old (Ok result) m1.new m3.new }
 {
     let j = c.n[1] as usize;
     let number = (j + 1) as i8;
@@ -29,49 +27,31 @@ fn add_seam(c: Counts, a: usize, b: usize, m1: &mut [i8], m3: &mut [i8]) -> Coun
 }
 
 // The seam between corners a and b, from a to b if it is not there yet.
-fn meet_side(c: Counts, a: usize, b: usize, m1: &mut [i8], m3: &mut [i8]) -> Imported
+fn meet_side(c: Counts, a: usize, b: usize, m1: &mut [i8], m3: &mut [i8]) -> Result<Counts, Refusal>
     requires { TwoCorners c a b m1.old m3.old }
     ensures { Joined (meet a b) c m1.old result m1.new m3.new }
 {
-    if !is_zero8(m3[SIDE * b + a]) {
-        return Imported {
-            counts: c,
-            refusal: ACCEPTED,
-        };
+    let seam = m3[SIDE * b + a];
+    if seam != 0 {
+        return Ok(c);
     }
     if c.n[1] as usize == SIDE {
-        return Imported {
-            counts: c,
-            refusal: NO_ROOM,
-        };
+        return Err(Refusal::NoRoom);
     }
-    let counts = add_seam(c, a, b, m1, m3);
-    Imported {
-        counts,
-        refusal: ACCEPTED,
-    }
+    Ok(add_seam(c, a, b, m1, m3))
 }
 
-// The seams along the ring of the first n bytes.
-fn meet_sides(c: Counts, bytes: &[u8], n: usize, m1: &mut [i8], m3: &mut [i8]) -> Imported
-    requires { RingSeams c bytes.now n m1.old m3.old }
-    ensures { Joined (meet_sides (take n bytes.now)) c m1.old result m1.new m3.new }
+// The seams along a ring, each from a corner to the one after it.
+fn meet_sides(c: Counts, ring: &[u8], m1: &mut [i8], m3: &mut [i8]) -> Result<Counts, Refusal>
+    requires { RingSeams c ring.now m1.old m3.old }
+    ensures { Joined (meet_sides ring.now) c m1.old result m1.new m3.new }
 {
     let mut counts = c;
-    for l in 0..n {
-        let a = bytes[l] as usize;
-        let b = next_corner(bytes, n, l);
-        let met = meet_side(counts, a, b, m1, m3);
-        if met.refusal != ACCEPTED {
-            return met;
-        }
-        let next = met.counts;
-        counts = next;
+    let (first, others) = ring.split_at(1);
+    for (tail, head) in ring.iter().zip(others.iter().chain(first)) {
+        counts = meet_side(counts, *tail as usize, *head as usize, m1, m3)?;
     }
-    Imported {
-        counts,
-        refusal: ACCEPTED,
-    }
+    Ok(counts)
 }
 
 // The seam that the number z names stands in column j, with z's sign.
@@ -86,46 +66,34 @@ fn put_side(m2: &mut [i8], j: usize, z: i8)
     }
 }
 
-// The sides of the ring of the first n bytes stand in column j of panels.
-fn put_sides(bytes: &[u8], n: usize, m3: &[i8], m2: &mut [i8], j: usize)
-    requires { SidesRoom bytes.now n m3.now m2.old j }
-    ensures { m2.new ≡ over (with_sides (take n bytes.now) (entries m3.now) j) m2.old }
+// The sides of a ring stand in column j of panels.
+fn put_sides(ring: &[u8], m3: &[i8], m2: &mut [i8], j: usize)
+    requires { SidesRoom ring.now m3.now m2.old j }
+    ensures { m2.new ≡ over (with_sides ring.now (entries m3.now) j) m2.old }
 {
-    for l in 0..n {
-        let a = bytes[l] as usize;
-        let b = next_corner(bytes, n, l);
+    let (first, others) = ring.split_at(1);
+    for (tail, head) in ring.iter().zip(others.iter().chain(first)) {
+        let a = *tail as usize;
+        let b = *head as usize;
         put_side(m2, j, m3[SIDE * b + a]);
     }
 }
 
-// The ring of the first n bytes is sewn on; they are corners of the pattern.
+// A ring is sewn on whose corners are corners of the pattern.
 pub(crate) fn sew_ring(
     c: Counts,
-    bytes: &[u8],
-    n: usize,
+    ring: &[u8],
     m1: &mut [i8],
     m2: &mut [i8],
     m3: &mut [i8],
-) -> Imported
-    requires { RingDrawn c bytes.now n m1.old m2.old m3.old }
-    ensures { Stands (sew_ring (take n bytes.now) (drawn c m1.old m2.old)) result m1.new m2.new m3.new }
+) -> Result<Counts, Refusal>
+    requires { RingDrawn c ring.now m1.old m2.old m3.old }
+    ensures { Stands (sew_ring ring.now (drawn c m1.old m2.old)) result m1.new m2.new m3.new }
 {
-    if !is_ring(bytes, n) {
-        return Imported {
-            counts: c,
-            refusal: NOT_CLOSED,
-        };
+    if !is_ring(ring) {
+        return Err(Refusal::NotClosed);
     }
-    let met = meet_sides(c, bytes, n, m1, m3);
-    if met.refusal != ACCEPTED {
-        return met;
-    }
-    let counts = met.counts;
-    let j = counts.n[2] as usize;
-    put_sides(bytes, n, m3, m2, j);
-    let grown = counts.grown(2);
-    Imported {
-        counts: grown,
-        refusal: ACCEPTED,
-    }
+    let counts = meet_sides(c, ring, m1, m3)?;
+    put_sides(ring, m3, m2, counts.n[2] as usize);
+    Ok(counts.grown(2))
 }

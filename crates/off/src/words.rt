@@ -1,151 +1,124 @@
-// The words of an OFF text: blanks are skipped, and a number or the keyword is read.
-ghost use Rattle.std.specs.Prelude.{◌≡◌, ◌-◌, ◌≤◌, drop};
-ghost use Rattle.off.specs.Words.{is_blank, is_digit, word_ends, the_digits, number_of, number_here, natural, coordinate, keyword};
-ghost use Rattle.off.specs.Reading.{number_found, coordinate_found, Skipped, IsLimited};
-
-// A number of at most seven digits, and the place after it; or none.
-#[derive(Clone, Copy)]
-pub enum Number {
-    None,
-    Found(u32, usize),
-}
-
-// A coordinate, and the place after it; or none.
-#[derive(Clone, Copy)]
-pub enum Signed {
-    None,
-    Found(i32, usize),
-}
+// The words of an OFF text. Each is read at the front of a text, and what it leaves is the text after it.
+ghost use Rattle.std.specs.Prelude.{◌≡◌, ◌≤◌, pos, length};
+ghost use Rattle.std.specs.List.{prefix_len};
+ghost use Rattle.off.specs.Words.{is_blank, skipped, is_digit, word_ends, number_here, natural, limited, coordinate, keyword};
+ghost use Rattle.off.specs.Reading.{found_of, keyword_found, FewDigits, value_from};
 
 // How far from 0 a coordinate may be.
 pub(crate) const FARTHEST: u32 = 1_048_576;
 
 // Whether a byte separates words: blank, tab, CR or LF.
+#[tactic(auto, unfolding(crate::specs::Words::is_blank))]
 fn is_blank(b: u8) -> bool
     ensures { result ≡ is_blank b }
 {
-    (b == 32) | (b == 9) | (b == 13) | (b == 10)
+    matches!(b, b' ' | b'\t' | b'\r' | b'\n')
 }
 
-// The first place from `at` on where no blank stands.
-pub(crate) fn skip_blanks(s: &[u8], at: usize) -> usize
-    ensures { Skipped s.now at result }
+// How many blanks are at the front of a text.
+fn blanks(s: &[u8]) -> usize
+    ensures within { result ≤ length s.now }
+    ensures are { result ≡ prefix_len is_blank s.now }
 {
-    let mut next = at;
-    while next < s.len() {
-        if !is_blank(s[next]) {
-            return next;
-        }
-        next += 1;
-    }
-    next
+    s.iter().take_while(|b| is_blank(**b)).count()
 }
 
-// Whether a word ends at a place.
-fn word_ends(s: &[u8], at: usize) -> bool
-    ensures { result ≡ word_ends (drop at s.now) }
+// The text from its first byte that is no blank.
+pub(crate) fn skip_blanks(s: &[u8]) -> &[u8]
+    ensures { result.now ≡ skipped s.now }
 {
-    if s.len() <= at {
-        return true;
+    &s[blanks(s)..]
+}
+
+// Whether a word ends at the front of a text.
+#[tactic(auto, unfolding(crate::specs::Words::word_ends))]
+fn word_ends(s: &[u8]) -> bool
+    ensures { result ≡ word_ends s.now }
+{
+    match s {
+        [] => true,
+        [b, ..] => is_blank(*b),
     }
-    is_blank(s[at])
 }
 
 // Whether a byte is a digit.
+#[tactic(auto, unfolding(crate::specs::Words::is_digit))]
 fn is_digit(b: u8) -> bool
     ensures { result ≡ is_digit b }
 {
-    (48 <= b) & (b <= 57)
+    matches!(b, b'0'..=b'9')
 }
 
-// The number of the digits from `at` up to `next`, whose value is n.
-fn number_of(s: &[u8], at: usize, next: usize, n: u32) -> Number
-    requires { at ≤ next }
-    ensures { number_found s.now result ≡ number_of (the_digits n (next - at) (drop next s.now)) }
+// How many digits are at the front of a text.
+fn digits(s: &[u8]) -> usize
+    ensures within { result ≤ length s.now }
+    ensures are { result ≡ prefix_len is_digit s.now }
 {
-    if next == at {
-        return Number::None;
-    }
-    if 7 < next - at {
-        return Number::None;
-    }
-    if !word_ends(s, next) {
-        return Number::None;
-    }
-    Number::Found(n, next)
+    s.iter().take_while(|b| is_digit(**b)).count()
 }
 
-// The number whose digits begin at `at`.
-fn number_here(s: &[u8], at: usize) -> Number
-    ensures { number_found s.now result ≡ number_here (drop at s.now) }
+// The value of at most seven digits.
+fn value_of(digits: &[u8]) -> u32
+    requires { FewDigits digits.now }
+    ensures { result ≡ value_from 0 digits.now }
 {
     let mut n: u32 = 0;
-    let mut next = at;
-    while next < s.len() {
-        let b = s[next];
-        if !is_digit(b) {
-            return number_of(s, at, next, n);
-        }
-        if 7 <= next - at {
-            return Number::None;
-        }
-        n = 10 * n + (b - 48) as u32;
-        next += 1;
+    for b in digits {
+        n = 10 * n + u32::from(*b - b'0');
     }
-    number_of(s, at, next, n)
+    n
 }
 
-// The number after blanks from `at` on.
-pub(crate) fn natural(s: &[u8], at: usize) -> Number
-    ensures { number_found s.now result ≡ natural (drop at s.now) }
+// The number whose digits begin at the front.
+fn number_here(s: &[u8]) -> Option<(u32, &[u8])>
+    ensures { found_of result ≡ number_here s.now }
 {
-    number_here(s, skip_blanks(s, at))
+    let count = digits(s);
+    let (digits, rest) = s.split_at(count);
+    if count < 1 || 7 < count || !word_ends(rest) {
+        return None;
+    }
+    Some((value_of(digits), rest))
 }
 
-// A number as a coordinate, which may be negative.
-fn limited(x: Number, negative: bool) -> Signed
-    ensures { IsLimited x negative result }
+// The number after blanks.
+#[tactic(auto, unfolding(crate::specs::Words::natural))]
+pub(crate) fn natural(s: &[u8]) -> Option<(u32, &[u8])>
+    ensures { found_of result ≡ natural s.now }
 {
-    match x {
-        Number::None => Signed::None,
-        Number::Found(n, next) => {
-            if FARTHEST < n {
-                return Signed::None;
-            }
-            if negative {
-                Signed::Found(-(n as i32), next)
-            } else {
-                Signed::Found(n as i32, next)
-            }
-        }
-    }
+    number_here(skip_blanks(s))
 }
 
-// The coordinate after blanks from `at` on.
-pub(crate) fn coordinate(s: &[u8], at: usize) -> Signed
-    ensures { coordinate_found s.now result ≡ coordinate (drop at s.now) }
+// A number as a coordinate that is not negative.
+fn limited(s: &[u8]) -> Option<(i32, &[u8])>
+    ensures { found_of result ≡ limited pos (number_here s.now) }
 {
-    let here = skip_blanks(s, at);
-    if here < s.len() {
-        if s[here] == 45 {
-            return limited(number_here(s, here + 1), true);
-        }
+    let (n, rest) = number_here(s)?;
+    if FARTHEST < n {
+        return None;
     }
-    limited(number_here(s, here), false)
+    Some((n as i32, rest))
 }
 
-// The keyword at the front, after blanks.
-pub(crate) fn keyword(s: &[u8]) -> Number
-    ensures { number_found s.now result ≡ keyword s.now }
+// The coordinate after blanks.
+pub(crate) fn coordinate(s: &[u8]) -> Option<(i32, &[u8])>
+    ensures { found_of result ≡ coordinate s.now }
 {
-    let at = skip_blanks(s, 0);
-    if s.len() - at < 3 {
-        return Number::None;
+    let here = skip_blanks(s);
+    let Some(after) = here.strip_prefix(b"-") else {
+        return limited(here);
+    };
+    let (z, rest) = limited(after)?;
+    Some((-z, rest))
+}
+
+// The text after the keyword.
+pub(crate) fn keyword(s: &[u8]) -> Option<&[u8]>
+    ensures { keyword_found result ≡ keyword s.now }
+{
+    let rest = skip_blanks(s).strip_prefix(b"OFF")?;
+    if !word_ends(rest) {
+        return None;
     }
-    if (s[at] == 79) & (s[at + 1] == 70) & (s[at + 2] == 70) {
-        if word_ends(s, at + 3) {
-            return Number::Found(0, at + 3);
-        }
-    }
-    Number::None
+    Some(rest)
 }

@@ -1,5 +1,5 @@
 pub mod Lists
-pub mod Listing
+pub mod Numbers
 pub mod Parts
 pub mod Choices
 pub mod SplitForms

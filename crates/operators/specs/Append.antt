@@ -31,7 +31,7 @@ pub record Storable (column m : List ℤ) (at : ℕ) : Type 0 where
 -- the same, and the matrix below, of whose n cells the column is a chain
 pub record Closable (low : List ℤ) (n : ℕ) (column m : List ℤ) (at : ℕ) : Type 0 where
   pub storable : Storable column m at
-  pub summands : Summands low n column 0
+  pub summands : Summands low n column
 
 -- the column of a new cell of dimension k
 pub record Appendable (k : ℕ) (column : List ℤ) (p : Pattern) : Type 0 where

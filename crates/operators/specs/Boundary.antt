@@ -1,5 +1,5 @@
 -- The boundary of a chain of cells of a stored matrix: what the code that adds it up needs and gives.
-use Rattle.std.specs.Prelude.{◌≡◌, Bool, List, ℕ, pred, ◌≤◌, ℤ}
+use Rattle.std.specs.Prelude.{◌≡◌, Option, is_some, IfSome, List, ℕ, pred, ◌≤◌, ℤ}
 use Rattle.maths.specs.Tables.{table}
 use Rattle.grid.specs.Grid.{column_sum, Summands}
 use Rattle.rules.specs.Complex.{Chain}
@@ -16,9 +16,9 @@ edge_of low w = table 96 (edge low w)
 pub record BoundaryNeeds (dim : ℕ) (low taken : List ℤ) : Type 0 where
   pub least : 1 ≤ dim
   pub most : dim ≤ 3
-  pub summands : 2 ≤ dim → Summands low 96 taken 0
+  pub summands : 2 ≤ dim → Summands low 96 taken
 
--- whether a dividing cell can have the boundary of w, and that boundary
-pub record BoundaryFound (dim : ℕ) (low : List ℤ) (w : Chain) (fine : Bool) (found : List ℤ) : Type 0 where
-  pub fine_is : fine ≡ divides (pred dim) (edge low w)
-  pub found-is : 2 ≤ dim → found ≡ edge_of low w
+-- the boundary of w, where a dividing cell can have it; that of a corner is not told
+pub record BoundaryFound (dim : ℕ) (low : List ℤ) (w : Chain) (found : Option (List ℤ)) : Type 0 where
+  pub fine : is_some found ≡ divides (pred dim) (edge low w)
+  pub is : 2 ≤ dim → IfSome found (λ e. e ≡ edge_of low w)

@@ -1,9 +1,9 @@
 -- What the code of a split needs, and what it leaves in the matrix of its cell and in the neighbours.
-use Rattle.std.specs.Prelude.{◌≡◌, Bool, cond, List, ℕ, pred, ◌<◌, ◌≤◌, eqb, ℤ, pos, length}
+use Rattle.std.specs.Prelude.{◌≡◌, Bool, cond, List, ℕ, pred, ◌<◌, ◌≤◌, eqb, ℤ, pos, length, Ok}
+use Rattle.std.specs.List.{All}
 use Rattle.maths.specs.Tests.{is_zero}
 use Rattle.maths.specs.Tables.{Entries, entries, column, tab}
 use Rattle.grid.specs.Grid.{Units, Lines, LineFor}
-use Rattle.rules.specs.declared.form.OperatorForm.{OperatorForm}
 use Rattle.rules.specs.declared.operator.Operator.{Operator}
 use Rattle.rules.specs.Refusals.{accepted, wrong_part, wrong_divider}
 use Rattle.rules.specs.Complex.{Pattern, Complex, Chain, bare, complex, stored, layer}
@@ -13,7 +13,7 @@ use Rattle.rules.specs.Form.{split_at}
 use Rattle.rules.specs.Calls.{Lent, lent, coefficients}
 use Rattle.rules.specs.Good.{Held}
 use Rattle.operators.specs.Boundary.{edge}
-use Rattle.operators.specs.Part.{Choice, part_of}
+use Rattle.operators.specs.Part.{part_of}
 
 -- the bytes up to `list`, and from it on, are those of a cell to be split
 pub record SplitForm (s : List ℕ) (dim cell list : ℕ) : Type 0 where
@@ -21,13 +21,14 @@ pub record SplitForm (s : List ℕ) (dim cell list : ℕ) : Type 0 where
   pub most : dim ≤ 3
   pub at : ℕ
   pub next : ℕ
-  pub form : split_at s dim at ≡ OperatorForm.Decoded (Operator.Split dim cell list) next
+  pub form : split_at s dim at ≡ Ok (Operator.Split dim cell list, next)
 
 -- a good pattern, a cell to be split, and room for the two new ones
-pub record Prepared (p : Pattern) (s : List ℕ) (dim cell list : ℕ) : Type 0 where
+pub record Prepared (p : Pattern) (faces : List ℕ) (dim cell : ℕ) : Type 0 where
   pub held : Held p
+  pub least : 1 ≤ dim
   pub most : dim ≤ 3
-  pub choice : Choice s dim list
+  pub few : All (λ i. i < 96) faces
   pub there : cell < (complex p dim).n
   pub room-below : (complex p (pred dim)).n < 96
   pub room : (complex p dim).n < 96

@@ -1,132 +1,88 @@
 // The faces that a split chooses, as a column: the chosen part of the cell's boundary.
-ghost use Rattle.std.specs.Prelude.{◌≡◌, cond, ◌<◌, length, get_or, pos};
-ghost use Rattle.maths.specs.Tests.{eq_z, all};
-ghost use Rattle.maths.specs.Tables.{column};
-ghost use Rattle.grid.specs.Grid.{Line, LineFor};
+ghost use Rattle.std.specs.Prelude.{◌≡◌, ◌<◌, Option, length};
+ghost use Rattle.std.specs.List.{All};
 ghost use Rattle.rules.specs.Operators.{listed, all_below, chosen};
-ghost use Rattle.rules.specs.Form.{chosen_of};
 ghost use Rattle.rules.specs.Calls.{coefficients};
-ghost use Rattle.operators.specs.Part.{ListForm, Numbers, Choice, Takeable, Taken, numbers, head, part_of, all_there, is_true_part};
+ghost use Rattle.operators.specs.Part.{ListForm, listing, numbers, head, part_of, part_taken, all_there, is_true_part};
 
-use grid::byte::{eq8, is_zero8};
 use grid::runs::are_zero;
 use maths::SIDE;
 
-// One byte.
-fn byte_at(s: &[u8], at: usize) -> usize
-    requires { at < length s.now }
-    ensures { result ≡ get_or s.now at 0 }
-{
-    s[at] as usize
-}
-
-// Whether every listed number is below n. A seam lists none.
-pub(crate) fn faces_below(s: &[u8], dim: u8, list: usize, n: usize) -> bool
+// The bytes of the listed numbers, whose count stands before them. A seam lists none.
+pub(crate) fn listing(s: &[u8], dim: u8, list: usize) -> &[u8]
     requires { ListForm s.now dim list }
-    ensures { result ≡ all_below n (chosen_of s.now dim list) }
+    ensures { result.now ≡ listing s.now dim list }
 {
     if dim == 1 {
-        return true;
+        return &[];
     }
-    let count = byte_at(s, list);
-    for l in 0..count {
-        if n <= byte_at(s, list + 1 + l) {
-            return false;
-        }
-    }
-    true
+    let first = list + 1;
+    let count = s[list] as usize;
+    &s[first..first + count]
 }
 
-// An entry, if it is that of a head.
-fn head8(x: i8) -> i8
-    ensures { result ≡ cond (eq_z x (pos 1)) x (pos 0) }
+// Whether every listed number is below n.
+pub(crate) fn faces_below(faces: &[u8], n: u8) -> bool
+    ensures { result ≡ all_below n (numbers faces.now) }
 {
-    if eq8(x, 1) {
-        return x;
-    }
-    0
+    faces.iter().all(|i| *i < n)
 }
 
 // A seam's part: its head.
-fn take_head(m: &[i8], cell: usize, taken: &mut [i8])
-    requires { LineFor m.now cell taken.old }
-    ensures { taken.new ≡ part_of (head (column m.now cell)) (column m.now cell) }
+fn take_head(column: &[i8]) -> [i8; SIDE]
+    requires { length column.now ≡ 96 }
+    ensures { result ≡ part_of (head (coefficients column.now)) (coefficients column.now) }
 {
-    let from = SIDE * cell;
-    for i in 0..SIDE {
-        taken[i] = head8(m[from + i]);
+    let mut taken = [0; SIDE];
+    for (i, x) in column.iter().enumerate() {
+        taken[i] = (*x == 1) as i8;
     }
+    taken
 }
 
 // A panel's or a block's part: its listed faces.
-fn take_listed(s: &[u8], list: usize, m: &[i8], cell: usize, taken: &mut [i8])
-    requires numbers { Numbers s.now list }
-    requires takeable { Takeable m.now cell taken.old }
-    ensures { taken.new ≡ part_of (listed (numbers s.now list)) (column m.now cell) }
+fn take_listed(faces: &[u8], column: &[i8]) -> [i8; SIDE]
+    requires few { All (λ i. i < 96) faces.now }
+    requires size { length column.now ≡ 96 }
+    ensures { result ≡ part_of (listed (numbers faces.now)) (coefficients column.now) }
 {
-    let from = SIDE * cell;
-    let count = byte_at(s, list);
-    for l in 0..count {
-        let i = byte_at(s, list + 1 + l);
-        taken[i] = m[from + i];
+    let mut taken = [0; SIDE];
+    for i in faces {
+        taken[*i as usize] = column[*i as usize];
     }
+    taken
 }
 
 // Whether each listed face has a non-zero entry.
-fn listed_there(s: &[u8], list: usize, m: &[i8], cell: usize) -> bool
-    requires numbers { Numbers s.now list }
-    requires line { Line m.now cell }
-    ensures { result ≡ all_there (numbers s.now list) (column m.now cell) }
+fn listed_there(faces: &[u8], column: &[i8]) -> bool
+    requires few { All (λ i. i < 96) faces.now }
+    requires size { length column.now ≡ 96 }
+    ensures { result ≡ all_there (numbers faces.now) (coefficients column.now) }
 {
-    let from = SIDE * cell;
-    let count = byte_at(s, list);
-    for l in 0..count {
-        let i = byte_at(s, list + 1 + l);
-        if is_zero8(m[from + i]) {
-            return false;
-        }
-    }
-    true
-}
-
-// Whether the part is the whole column.
-fn is_whole(m: &[i8], cell: usize, taken: &[i8]) -> bool
-    requires { LineFor m.now cell taken.now }
-    ensures { result ≡ all 96 (λ i. eq_z (column m.now cell i) (coefficients taken.now i)) }
-{
-    let from = SIDE * cell;
-    let mut same = true;
-    for i in 0..SIDE {
-        same = same & eq8(m[from + i], taken[i]);
-    }
-    same
+    faces.iter().all(|i| column[*i as usize] != 0)
 }
 
 // Whether the part has a face, and leaves one.
-fn is_true_part(m: &[i8], cell: usize, taken: &[i8]) -> bool
-    requires { LineFor m.now cell taken.now }
-    ensures { result ≡ is_true_part (coefficients taken.now) (column m.now cell) }
+fn is_true_part(column: &[i8], taken: &[i8]) -> bool
+    requires { (length column.now ≡ 96) × (length taken.now ≡ 96) }
+    ensures { result ≡ is_true_part (coefficients taken.now) (coefficients column.now) }
 {
-    !are_zero(taken, 0, SIDE) && !is_whole(m, cell, taken)
+    !are_zero(taken) && column != taken
 }
 
-// The chosen part, and whether it is at least one face, not all, each with a non-zero entry.
-pub(crate) fn take_part(
-    dim: u8,
-    s: &[u8],
-    list: usize,
-    m: &[i8],
-    cell: usize,
-    taken: &mut [i8],
-) -> bool
-    requires choice { Choice s.now dim list }
-    requires takeable { Takeable m.now cell taken.old }
-    ensures { Taken (chosen dim (chosen_of s.now dim list) (column m.now cell)) (column m.now cell) result taken.new }
+// The chosen part, where it is at least one face, not all, each with a non-zero entry.
+pub(crate) fn take_part(dim: u8, faces: &[u8], column: &[i8]) -> Option<[i8; SIDE]>
+    requires few { All (λ i. i < 96) faces.now }
+    requires size { length column.now ≡ 96 }
+    ensures { result ≡ part_taken (chosen dim (numbers faces.now) (coefficients column.now)) (coefficients column.now) }
 {
     if dim == 1 {
-        take_head(m, cell, taken);
-        return is_true_part(m, cell, taken);
+        let taken = take_head(column);
+        return is_true_part(column, &taken).then_some(taken);
     }
-    take_listed(s, list, m, cell, taken);
-    listed_there(s, list, m, cell) && is_true_part(m, cell, taken)
+    if !listed_there(faces, column) {
+        return None;
+    }
+    let taken = take_listed(faces, column);
+    is_true_part(column, &taken).then_some(taken)
 }

@@ -1,77 +1,62 @@
-// The faces that a cell is made with, and the column that they add up to.
-ghost use Rattle.std.specs.Prelude.{◌≡◌, get_or, set, pos, ◌+ℤ◌};
+// The column that the faces of a new cell add up to.
+ghost use Rattle.std.specs.Prelude.{◌≡◌, ◌≤◌, length};
 ghost use Rattle.rules.specs.Form.{sign_of, made_of};
-ghost use Rattle.operators.specs.Column.{FaceForm, IsFace, AddableAt, Drawable, Drawn, MakeForm};
+ghost use Rattle.operators.specs.Column.{Drawable, ends, pairs_of, drawn};
 
-// One listed face.
-#[derive(Clone, Copy)]
-struct Face {
-    number: usize,
-    sign: i8,
-}
+use maths::SIDE;
 
-// How many faces a cell of dimension dim lists.
-fn face_count(s: &[u8], dim: u8, list: usize) -> usize
-    requires { MakeForm s.now dim list }
-    ensures { result ≡ (made_of s.now dim list).n }
+// A seam's column, if tail and head are among n corners.
+fn draw_seam(n: u8, tail: u8, head: u8) -> Option<[i8; SIDE]>
+    requires { n ≤ 96 }
+    ensures { result ≡ drawn n (ends tail head) }
 {
-    match dim {
-        0 => 0,
-        1 => 2,
-        _ => s[list] as usize,
+    if n <= tail {
+        return None;
     }
+    if n <= head {
+        return None;
+    }
+    let mut column = [0; SIDE];
+    column[tail as usize] = -1;
+    column[head as usize] += 1;
+    Some(column)
 }
 
 // The sign that a byte says: 1 for plus, and 2 for minus.
 fn sign_of(b: u8) -> i8
     ensures { result ≡ sign_of b }
 {
-    if b == 1 {
-        return 1;
-    }
-    -1
+    if b == 1 { 1 } else { -1 }
 }
 
-// Face l of a cell of dimension dim: tail and head of a seam, a pair of a list.
-fn face_at(s: &[u8], dim: u8, list: usize, l: usize) -> Face
-    requires { FaceForm s.now dim list l }
-    ensures { IsFace (made_of s.now dim list) l result }
+// The column of pairs of a number and a sign, if all the numbers are below n.
+fn draw_pairs(n: u8, pairs: &[u8]) -> Option<[i8; SIDE]>
+    requires few { n ≤ 96 }
+    requires short { length pairs.now ≤ 192 }
+    ensures { result ≡ drawn n (pairs_of pairs.now) }
 {
-    if dim == 1 {
-        let number = s[list + l] as usize;
-        if l == 0 {
-            return Face { number, sign: -1 };
+    let mut column = [0; SIDE];
+    for pair in pairs.chunks_exact(2) {
+        if n <= pair[0] {
+            return None;
         }
-        return Face { number, sign: 1 };
+        column[pair[0] as usize] += sign_of(pair[1]);
     }
-    let at = list + 1 + 2 * l;
-    let sign = sign_of(s[at + 1]);
-    Face {
-        number: s[at] as usize,
-        sign,
-    }
+    Some(column)
 }
 
-// z is added to the column at i.
-fn add_at(column: &mut [i8], i: usize, z: i8)
-    requires { AddableAt column.old i z }
-    ensures { column.new ≡ set column.old i (get_or column.old i (pos 0) +ℤ z) }
+// The column of the faces that are listed at `list`, if all are among n cells. A corner has none.
+pub(crate) fn draw(s: &[u8], dim: u8, list: usize, n: u8) -> Option<[i8; SIDE]>
+    requires { Drawable s.now dim list n }
+    ensures { result ≡ drawn n (made_of s.now dim list) }
 {
-    column[i] = column[i] + z;
-}
-
-// The faces are added up in a column of zeros, if each is one of n cells.
-pub(crate) fn draw(s: &[u8], dim: u8, list: usize, n: u8, column: &mut [i8]) -> bool
-    requires { Drawable s.now dim list n column.old }
-    ensures { Drawn (made_of s.now dim list) n result column.new }
-{
-    let count = face_count(s, dim, list);
-    for l in 0..count {
-        let face = face_at(s, dim, list, l);
-        if n as usize <= face.number {
-            return false;
+    match dim {
+        0 => Some([0; SIDE]),
+        1 => draw_seam(n, s[list], s[list + 1]),
+        _ => {
+            let first = list + 1;
+            let count = s[list] as usize;
+            draw_pairs(n, &s[first..first + 2 * count])
         }
-        add_at(column, face.number, face.sign);
     }
-    true
 }

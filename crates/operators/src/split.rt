@@ -1,22 +1,25 @@
 // Split: a cell's boundary is divided into a chosen part and the rest, by a new cell between its two halves.
-ghost use Rattle.std.specs.Prelude.{◌≡◌};
+ghost use Rattle.std.specs.Prelude.{◌≡◌, ◌<◌, IfOk};
+ghost use Rattle.std.specs.List.{All};
 ghost use Rattle.maths.specs.Tables.{column};
 ghost use Rattle.rules.specs.Complex.{complex};
 ghost use Rattle.rules.specs.Operators.{chosen, split_step};
 ghost use Rattle.rules.specs.Form.{chosen_of};
 ghost use Rattle.rules.specs.Calls.{applied};
-ghost use Rattle.rules.specs.Lending.{as_lent, at_entry, left};
+ghost use Rattle.rules.specs.Told.{number_told};
+ghost use Rattle.rules.specs.Lending.{lent_by, answered, applied_to, SameLoans};
 ghost use Rattle.rules.specs.Good.{Held};
-ghost use Rattle.operators.specs.Part.{Choice};
+ghost use Rattle.operators.specs.Part.{numbers};
 ghost use Rattle.operators.specs.Split.{SplitForm, Prepared, Splittable, around, divided, part_step, leaves};
 
-use crate::chosen::{faces_below, take_part};
-use crate::divider::take_boundary;
+use crate::chosen::{faces_below, listing, take_part};
+use crate::divider::boundary_of;
 use crate::halves::{halve, repeat_row, set_divider};
-use maths::{MOST, SIDE};
-use rules::answers::Applied;
+use grid::runs::column;
+use maths::MOST;
 use rules::counts::Counts;
-use rules::refusals::{ACCEPTED, NO_ROOM, NO_SUCH_CELL, WRONG_DIVIDER, WRONG_PART};
+use rules::pattern::Pattern;
+use rules::refusals::Refusal;
 
 // A cell of the matrix `mid` is split by cell t of `low`, which is empty under seams; its new half gets its row in `high`, empty over blocks.
 fn divide(
@@ -24,90 +27,63 @@ fn divide(
     cell: usize,
     t: usize,
     new: usize,
-    s: &[u8],
-    list: usize,
+    faces: &[u8],
     low: &mut [i8],
     mid: &mut [i8],
     high: &mut [i8],
-) -> u8
-    requires choice { Choice s.now dim list }
+) -> Result<(), Refusal>
+    requires few { All (λ i. i < 96) faces.now }
     requires splittable { Splittable dim cell t new low.old mid.old high.old }
-    ensures { around result low.new mid.new high.new ≡ divided dim cell t new (chosen dim (chosen_of s.now dim list) (column mid.old cell)) low.old mid.old high.old }
+    ensures { around (number_told result) low.new mid.new high.new ≡ divided dim cell t new (chosen dim (numbers faces.now) (column mid.old cell)) low.old mid.old high.old }
 {
-    let mut taken = [0i8; SIDE];
-    if !take_part(dim, s, list, mid, cell, &mut taken) {
-        return WRONG_PART;
-    }
-    let mut edge = [0i8; SIDE];
-    if !take_boundary(dim, low, &taken, &mut edge) {
-        return WRONG_DIVIDER;
-    }
+    let Some(taken) = take_part(dim, faces, column(mid, cell)) else {
+        return Err(Refusal::WrongPart);
+    };
+    let Some(edge) = boundary_of(dim, low, &taken) else {
+        return Err(Refusal::WrongDivider);
+    };
     set_divider(dim, low, t, &edge);
     halve(mid, cell, t, new, &taken);
     repeat_row(dim, high, cell, new);
-    ACCEPTED
+    Ok(())
 }
 
 // A cell of dimension dim is split in the matrices that have its faces, its column and its row, or refused by 9 or 10.
-fn split_at(
-    c: Counts,
-    dim: u8,
-    cell: usize,
-    s: &[u8],
-    list: usize,
-    m1: &mut [i8],
-    m2: &mut [i8],
-    m3: &mut [i8],
-) -> u8
-    requires { Prepared (as_lent c m1.old m2.old m3.old) s.now dim cell list }
-    ensures { left result m1.new m2.new m3.new ≡ leaves (at_entry c m1.old m2.old m3.old) (part_step dim cell (chosen_of s.now dim list) (complex (at_entry c m1.old m2.old m3.old))) }
+fn split_at(p: &mut Pattern, dim: u8, cell: usize, faces: &[u8]) -> Result<(), Refusal>
+    requires { Prepared (lent_by p.old) faces.now dim cell }
+    ensures does { answered (number_told result) p.new ≡ leaves (lent_by p.old) (part_step dim cell (numbers faces.now) (complex (lent_by p.old))) }
+    ensures counts { p.new.counts ≡ p.old.counts }
+    ensures same { SameLoans p.old p.new }
 {
     let k = dim as usize;
-    let t = c.n[k - 1] as usize;
-    let new = c.n[k] as usize;
-    let mut none = [0i8; 0];
+    let t = p.counts.n[k - 1] as usize;
+    let new = p.counts.n[k] as usize;
     match dim {
-        1 => divide(dim, cell, t, new, s, list, &mut none, m1, m2),
-        2 => divide(dim, cell, t, new, s, list, m1, m2, m3),
-        _ => divide(dim, cell, t, new, s, list, m2, m3, &mut none),
+        1 => divide(dim, cell, t, new, faces, &mut [], p.m1, p.m2),
+        2 => divide(dim, cell, t, new, faces, p.m1, p.m2, p.m3),
+        _ => divide(dim, cell, t, new, faces, p.m2, p.m3, &mut []),
     }
 }
 
 // Split dim: the cell is divided into the listed faces, or a seam's head, and the rest.
-pub fn split(
-    c: Counts,
-    dim: u8,
-    cell: u8,
-    s: &[u8],
-    list: usize,
-    m1: &mut [i8],
-    m2: &mut [i8],
-    m3: &mut [i8],
-) -> Applied
-    requires held { Held (as_lent c m1.old m2.old m3.old) }
+pub fn split(p: &mut Pattern, dim: u8, cell: u8, s: &[u8], list: usize) -> Result<Counts, Refusal>
+    requires held { Held (lent_by p.old) }
     requires split_form { SplitForm s.now dim cell list }
-    ensures { left result m1.new m2.new m3.new ≡ applied (at_entry c m1.old m2.old m3.old) (split_step dim cell (chosen_of s.now dim list) (complex (at_entry c m1.old m2.old m3.old))) }
+    ensures does { applied_to result p.new ≡ applied (lent_by p.old) (split_step dim cell (chosen_of s.now dim list) (complex (lent_by p.old))) }
+    ensures counts { IfOk result (λ c. c ≡ p.new.counts) }
+    ensures same { SameLoans p.old p.new }
 {
     let k = dim as usize;
-    let below = c.n[k - 1];
-    let here = c.n[k];
-    if !((cell < here) & faces_below(s, dim, list, below as usize)) {
-        return Applied {
-            counts: c,
-            refusal: NO_SUCH_CELL,
-        };
+    let below = p.counts.n[k - 1];
+    let here = p.counts.n[k];
+    let faces = listing(s, dim, list);
+    if !((cell < here) & faces_below(faces, below)) {
+        return Err(Refusal::NoSuchCell);
     }
     if !((below < MOST) & (here < MOST)) {
-        return Applied {
-            counts: c,
-            refusal: NO_ROOM,
-        };
+        return Err(Refusal::NoRoom);
     }
-    let refusal = split_at(c, dim, cell as usize, s, list, m1, m2, m3);
-    if refusal != ACCEPTED {
-        return Applied { counts: c, refusal };
-    }
-    let more = c.grown(k - 1);
-    let counts = more.grown(k);
-    Applied { counts, refusal }
+    split_at(p, dim, cell as usize, faces)?;
+    p.counts = p.counts.grown(k - 1).grown(k);
+    Ok(p.counts)
 }

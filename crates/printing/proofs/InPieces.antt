@@ -18,12 +18,11 @@ use Rattle.rules.proofs.Storage.Stored.{complex-stored}
 use Rattle.rules.proofs.Texts.ReadGood.{read_good, mesh_each}
 use Rattle.listing.specs.Pieces.{column_lines, run_text}
 use Rattle.listing.proofs.Printed.{printed-run, printed-listing}
-use Rattle.printing.specs.declared.run.InputRun.{InputRun}
-use Rattle.printing.specs.Input.{no_run, end_of, ran_to, run_input, head_text, panel_text, block_text}
+use Rattle.printing.specs.Input.{Run, no_run, end_of, ran_to, run_input, head_text, panel_text, block_text}
 use Rattle.printing.proofs.Running.{end_good}
 
 -- the three pieces of a run, one after the other
-abbrev pieces : Lent InputRun → List ℕ
+abbrev pieces : Lent Run → List ℕ
 pieces l = head_text l.answer l.m1 ++ (panel_text l.answer l.m2 ++ block_text l.answer l.m3)
 
 -- a refused mesh has one line
@@ -49,7 +48,7 @@ pieces_printed input =
 
 -- `print` runs an input of at most 65,536 bytes (`pattern` reads the first 65,536); three times it puts a piece at the front of its buffer and lends that
 -- much of it to `write_all`. What it lends, in order, is `printed` of the input.
-module _ (input : List ℕ) {run : InputRun} {m1 m2 m3 : List ℤ}
+module _ (input : List ℕ) {run : Run} {m1 m2 m3 : List ℤ}
     (run-input : lent run (pattern run.counts m1 m2 m3) ≡ run_input (take 65536 input)) where
   pub printed_in_pieces : {out out1 out2 out3 : List ℕ} {head panels blocks : ℕ} →
       Put out 0 (head_text run m1) head out1 → Put out1 0 (panel_text run m2) panels out2 → Put out2 0 (block_text run m3) blocks out3 →

@@ -1,31 +1,40 @@
 -- Each piece has room in a buffer of 38,400 bytes, and ends inside it.
-use mathlib.Core.Path.{◌≡◌, sym, ap}
+use mathlib.Core.Path.{◌≡◌, refl, sym, ap}
 use mathlib.Core.List.{List}
 use Prim.Native.Nat.{ℕ, ◌≤◌}
 use native.Mathlib.Omega.{arith}
 use lib.ListN.{length, take, length-take}
 use lib.Seq.{length-take-le}
+use Rattle.std.specs.Prelude.{Result, Ok, Err}
 use Rattle.maths.specs.Buffers.{Put}
+use Rattle.rules.specs.declared.counts.Counts.{Counts}
+use Rattle.rules.specs.declared.refusals.Stop.{Stop}
 use Rattle.rules.specs.Counts.{count_of}
-use Rattle.rules.specs.Calls.{Lent}
+use Rattle.rules.specs.Complex.{Pattern}
+use Rattle.rules.specs.Calls.{lent}
 use Rattle.listing.specs.Pieces.{LinesRoom}
 use Rattle.printing.specs.declared.run.InputRun.{InputRun}
-use Rattle.printing.specs.Input.{HeadRoom}
+use Rattle.printing.specs.Input.{run_told, HeadRoom}
 use Rattle.printing.proofs.Sizes.{Printable}
 
-module _ {l : Lent InputRun} (p : Printable l) (out : List ℕ) (long : 38400 ≤ length out) where
-  pub head-room : HeadRoom l.answer l.m1 out
+-- the counts that are told are those of the pattern
+told_counts : (r : Result InputRun Stop) (c : Counts) → (run_told r c).counts ≡ c
+told_counts (Ok x) c = refl
+told_counts (Err stop) c = refl
+
+module _ (r : Result InputRun Stop) (q : Pattern) (p : Printable (lent (run_told r q.counts) q)) (out : List ℕ) (long : 38400 ≤ length out) where
+  pub head-room : HeadRoom (run_told r q.counts) q.m1 out
   head-room = record {
-    run = record { ran-small = omega arith; euler-small = omega arith; seams = record { columns = record { size = p.sized.size1; few = p.seams }; room = omega arith } };
+    seams = record { columns = record { size = p.sized.size1; few = p.seams }; room = omega arith };
     mesh-place = p.mesh-place;
     script-place = p.script-place;
   }
 
-  pub panel-room : LinesRoom 400 l.m2 (count_of l.answer.counts 2) out 0
-  panel-room = record { columns = record { size = p.sized.size2; few = p.panels }; room = omega arith }
+  pub panel-room : LinesRoom 400 q.m2 (count_of q.counts 2) out 0
+  panel-room = record { columns = record { size = p.sized.size2; few = rw (told_counts r q.counts) at p.panels }; room = omega arith }
 
-  pub block_room : LinesRoom 400 l.m3 (count_of l.answer.counts 3) out 0
-  block_room = record { columns = record { size = p.sized.size3; few = p.blocks }; room = omega arith }
+  pub block_room : LinesRoom 400 q.m3 (count_of q.counts 3) out 0
+  block_room = record { columns = record { size = p.sized.size3; few = rw (told_counts r q.counts) at p.blocks }; room = omega arith }
 
 -- what a piece at the front leaves of the buffer can be lent up to its end
 module _ {x y t : List ℕ} {n : ℕ} (p : Put x 0 t n y) where

@@ -1,40 +1,40 @@
 // The pieces of the printed result, each put at the front of a buffer. The answer is how long the piece is.
+ghost use Rattle.std.specs.Prelude.{◌≡◌, ◌<◌};
 ghost use Rattle.maths.specs.Buffers.{Put};
 ghost use Rattle.rules.specs.Counts.{count_of};
 ghost use Rattle.listing.specs.Pieces.{LinesRoom};
-ghost use Rattle.printing.specs.Input.{head_text, panel_text, block_text, HeadRoom};
+ghost use Rattle.printing.specs.Input.{run_told, head_text, letter_of, cells_text, HeadRoom};
 
 use crate::run::InputRun;
 use listing::lines::line_mesh;
 use listing::pieces::{put_cells, put_run};
-use rules::refusals::ACCEPTED;
+use rules::counts::Counts;
+use rules::pattern::View;
+use rules::refusals::Stop;
 
 // The refusal of a mesh, or else all that comes before the panels.
-pub(crate) fn put_head(out: &mut [u8], run: InputRun, m1: &[i8]) -> usize
-    requires { HeadRoom run m1.now out.old }
-    ensures { Put out.old 0 (head_text run m1.now) result out.new }
+pub(crate) fn put_head(out: &mut [u8], run: Result<InputRun, Stop>, p: View) -> usize
+    requires { HeadRoom (run_told run p.counts) p.m1.now out.old }
+    ensures { Put out.old 0 (head_text (run_told run p.entry.counts) p.entry.m1.now) result out.new }
 {
-    if run.mesh != ACCEPTED {
-        return line_mesh(out, 0, run.mesh, run.place);
+    match run {
+        Err(stop) => line_mesh(out, 0, stop),
+        Ok(run) => put_run(out, run.script, run.euler, p),
     }
-    let c = run.counts;
-    put_run(out, run.ran, run.refusal, run.place, c, run.euler, m1)
 }
 
-// The panels.
-pub(crate) fn put_panels(out: &mut [u8], run: InputRun, m2: &[i8]) -> usize
-    requires { LinesRoom 400 m2.now (count_of run.counts 2) out.old 0 }
-    ensures { Put out.old 0 (panel_text run m2.now) result out.new }
+// The letter of a panel, where k is 2, or of a block.
+fn letter_of(k: usize) -> u8
+    ensures { result ≡ letter_of k }
 {
-    let c = run.counts;
-    put_cells(out, b'f', c.n[2], m2)
+    if k == 2 { b'f' } else { b's' }
 }
 
-// The blocks.
-pub(crate) fn put_blocks(out: &mut [u8], run: InputRun, m3: &[i8]) -> usize
-    requires { LinesRoom 400 m3.now (count_of run.counts 3) out.old 0 }
-    ensures { Put out.old 0 (block_text run m3.now) result out.new }
+// The panels, where k is 2, or the blocks, where it is 3.
+pub(crate) fn put_cells_of(out: &mut [u8], c: Counts, k: usize, m: &[i8]) -> usize
+    requires dimension { k < 4 }
+    requires room { LinesRoom 400 m.now (count_of c k) out.old 0 }
+    ensures { Put out.old 0 (cells_text k c m.now) result out.new }
 {
-    let c = run.counts;
-    put_cells(out, b's', c.n[3], m3)
+    put_cells(out, letter_of(k), c.n[k], m)
 }

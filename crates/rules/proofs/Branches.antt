@@ -1,3 +1,4 @@
 pub mod Branches
 pub mod Numbers
 pub mod FirstTests
+pub mod Refused

@@ -2,12 +2,7 @@
 -- operator, a script and carrying answer the place of a fault of the form, and `no_place` where there is none.
 use Rattle.std.specs.Prelude.{Bool, cond, ◌&&◌, List, ◌++◌, ℕ, eqb, leb, ℤ, pos, length, get_or, drop}
 use Rattle.maths.specs.Tables.{table}
-use Rattle.rules.specs.declared.answers.MeshRead.{MeshRead}
-use Rattle.rules.specs.declared.answers.MeshWritten.{MeshWritten}
-use Rattle.rules.specs.declared.answers.EulerNumber.{EulerNumber}
-use Rattle.rules.specs.declared.answers.Applied.{Applied}
-use Rattle.rules.specs.declared.answers.OperatorApplied.{OperatorApplied}
-use Rattle.rules.specs.declared.answers.ScriptRun.{ScriptRun}
+use Rattle.rules.specs.Answers.{MeshRead, MeshWritten, EulerNumber, Applied, OperatorApplied, ScriptRun}
 use Rattle.rules.specs.declared.operator.Operator.{Operator}
 use Rattle.rules.specs.Refusals.{accepted, wrong_length, not_good, wrong_form, short_output, wrong_chain, no_place}
 use Rattle.rules.specs.Complex.{Pattern, pattern, Complex, Chain, empty, complex, counts_of, stored, euler}

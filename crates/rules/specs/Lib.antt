@@ -8,7 +8,9 @@ pub mod Form
 pub mod Mesh
 pub mod Script
 pub mod Chains
+pub mod Answers
 pub mod Calls
+pub mod Told
 pub mod Lending
 pub mod Printed
 pub mod Cases

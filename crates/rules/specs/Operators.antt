@@ -22,6 +22,13 @@ amounts =
 abbrev pub amount_at : ℕ → ℕ → ℤ
 amount_at kind k = get_or (get_or amounts kind []) k (pos 0)
 
+abbrev pub dimension_of : Operator → ℕ
+dimension_of (Make k list) = k
+dimension_of (Kill k c) = k
+dimension_of (Split k s list) = k
+dimension_of (Merge k t) = k
+dimension_of (Flip k c) = k
+
 abbrev pub amount_of : Operator → ℤ
 amount_of (Make k list) = amount_at 0 k
 amount_of (Kill k c) = amount_at 1 k

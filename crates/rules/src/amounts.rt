@@ -1,6 +1,8 @@
 // What an accepted operator adds to the Euler number.
 ghost use Rattle.std.specs.Prelude.{◌≡◌, ◌<◌};
-ghost use Rattle.rules.specs.Operators.{amount_at};
+ghost use Rattle.rules.specs.Operators.{amount_of, dimension_of};
+
+use crate::operator::Operator;
 
 // A row for each kind: make, kill, split, merge, flip; a column for each dimension.
 const AMOUNTS: [[i8; 4]; 5] = [
@@ -11,10 +13,16 @@ const AMOUNTS: [[i8; 4]; 5] = [
     [0, 0, 0, 0],
 ];
 
-// The table's entry for a kind and a dimension.
-pub fn amount(kind: usize, dim: usize) -> i8
-    requires { (kind < 5) × (dim < 4) }
-    ensures { result ≡ amount_at kind dim }
+// The table's entry for the operator's kind and dimension.
+pub fn amount(o: Operator) -> i8
+    requires { dimension_of o < 4 }
+    ensures { result ≡ amount_of o }
 {
-    AMOUNTS[kind][dim]
+    match o {
+        Operator::Make { dim, .. } => AMOUNTS[0][dim as usize],
+        Operator::Kill { dim, .. } => AMOUNTS[1][dim as usize],
+        Operator::Split { dim, .. } => AMOUNTS[2][dim as usize],
+        Operator::Merge { dim, .. } => AMOUNTS[3][dim as usize],
+        Operator::Flip { dim, .. } => AMOUNTS[4][dim as usize],
+    }
 }

@@ -6,4 +6,5 @@ pub mod answers;
 pub mod counts;
 pub mod form;
 pub mod operator;
+pub mod pattern;
 pub mod refusals;

@@ -1,36 +1,40 @@
--- `engine::apply_operator` meets its contract: each return is one of the answers of a call with one operator.
-use mathlib.Core.Path.{◌≡◌, sym, ◌∙◌}
-use native.Mathlib.Omega.{arith}
+-- `engine::apply_operator` meets its contract: each return is one of the call's answers.
+use mathlib.Core.Path.{◌≡◌, sym, ap, ◌∙◌}
 use borrow.Author.Rules.{rules}
-use lib.ListN.{length}
-use Rattle.rules.specs.Lending.{as_lent}
+use Rattle.rules.specs.Refusals.{accepted}
+use Rattle.rules.specs.Lending.{lent_by}
+use Rattle.good.specs.Tested.{tested}
 use Rattle.good.proofs.Passing.{held}
-use Rattle.engine.proofs.Answers.{lone_read, lone_place, apply_not-good, apply_faulty, apply_done}
+use Rattle.rules.proofs.Branches.Refused.{handed_on}
+use Rattle.engine.proofs.Answers.{lone_read, apply_not-good, apply_faulty, apply_done}
 use Rattle.engine.proofs.apply_operator.Goals as goal
-use Rattle.engine.proofs.apply_operator.Goals.{Else-refusal-ne-ACCEPTED}
+use Rattle.engine.proofs.apply_operator.Goals.{In_ok-refusal_of_pattern}
 
-pub returns-then-refusal-ne-ACCEPTED : goal.returns-then-refusal-ne-ACCEPTED
-returns-then-refusal-ne-ACCEPTED c = apply_not-good _ _ c.refusal_of_pattern-refusal.ensures c.if-refusal-ne-ACCEPTED.true
+-- the pattern passed its test
+passed : (c : In_ok-refusal_of_pattern) → tested (lent_by c.args.p.now) ≡ accepted
+passed c = sym (c.in_ok-refusal_of_pattern.ensures ∙ ap tested c.view.ensures)
 
-pub apply-done-requires : goal.apply-done-requires
-apply-done-requires c =
-    let entry = as_lent c.args.c c.args.m1.now c.args.m2.now c.args.m3.now in
-    let four : length c.args.c.n ≡ 4 = search rules in
-    record {
-      held = held entry four (sym c.refusal_of_pattern-refusal.ensures ∙ c.if-refusal-ne-ACCEPTED.false);
-      read_from = lone_read (sym c.form_of_operator.ensures ∙ c.in-Decoded.is);
-    }
+pub returns-in_err-refusal_of_pattern-clause-does : goal.returns-in_err-refusal_of_pattern-clause-does
+returns-in_err-refusal_of_pattern-clause-does c =
+    rw (handed_on c.from_residual.ensures) (apply_not-good _ _ _ (c.in_err-refusal_of_pattern.ensures ∙ ap tested c.view.ensures))
 
-pub overflow_cast-result : goal.overflow_cast-result
-overflow_cast-result c =
-    omega (arith, c.place_of.ensures, lone_place c.args.s.now (sym c.form_of_operator.ensures ∙ c.in-Bad.is))
+pub returns-in_err-o-clause-does : goal.returns-in_err-o-clause-does
+returns-in_err-o-clause-does c =
+    rw (handed_on c.from_residual-in_err-o.ensures)
+    (apply_faulty _ _ (passed (goal.at.returns-in_err-o-clause-does c).In_ok-refusal_of_pattern) (sym c.in_err-o.ensures))
 
-pub returns-in-Bad : goal.returns-in-Bad
-returns-in-Bad c =
-    apply_faulty _ _ (sym c.refusal_of_pattern-refusal.ensures ∙ c.if-refusal-ne-ACCEPTED.false)
-    (sym c.form_of_operator.ensures ∙ c.in-Bad.is) c.refusal_of.ensures c.place_of.ensures
+pub apply-requires-clause-held : goal.apply-requires-clause-held
+apply-requires-clause-held c =
+    held (lent_by c.args.p.now) (search rules) (passed (goal.at.apply-requires-clause-held c).In_ok-refusal_of_pattern)
 
-pub returns-in-Decoded : goal.returns-in-Decoded
-returns-in-Decoded c =
-    apply_done _ _ (sym c.refusal_of_pattern-refusal.ensures ∙ c.if-refusal-ne-ACCEPTED.false)
-    (sym c.form_of_operator.ensures ∙ c.in-Decoded.is) c.apply-done.ensures
+pub apply-requires-clause-read_from : goal.apply-requires-clause-read_from
+apply-requires-clause-read_from c = lone_read (sym c.in_ok-o.ensures)
+
+pub returns-in_err-apply-clause-does : goal.returns-in_err-apply-clause-does
+returns-in_err-apply-clause-does c =
+    rw (handed_on c.from_residual-in_err-apply.ensures)
+    (apply_done _ _ (passed (goal.at.returns-in_err-apply-clause-does c).In_ok-refusal_of_pattern) (sym c.in_ok-o.ensures) c.in_err-apply.ensures.does)
+
+pub returns-clause-does : goal.returns-clause-does
+returns-clause-does c =
+    apply_done _ _ (passed (goal.at.returns-clause-does c).In_ok-refusal_of_pattern) (sym c.in_ok-o.ensures) c.in_ok-apply.ensures.does

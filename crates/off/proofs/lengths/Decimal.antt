@@ -1,23 +1,16 @@
 -- A number in decimal: its last digit, and how long it is.
 use mathlib.Core.Path.{◌≡◌, refl, sym}
-use mathlib.Core.List.{[], ◌∷◌, ◌++◌}
+use mathlib.Core.Bool.{cond}
+use mathlib.Core.List.{List, [], ◌∷◌, ◌++◌}
 use Prim.Native.Nat.{ℕ, zero, suc, ◌+◌, ◌*◌, ◌/◌, ◌%◌, ◌<◌, ◌≤◌, ◌^◌}
 use native.Mathlib.Nat.{pow-succ', one-le-pow}
 use native.Mathlib.Omega.{arith}
+use lib.Dec.{ltb}
 use lib.ListN.{length, length-append}
 use borrow.Author.Tests.{lt-ltb, le-ltb}
 use Rattle.maths.proofs.Cases.{lt_or}
 use Rattle.rules.specs.Printed.{digits}
 use Rattle.off.specs.Exporting.{number}
-
--- more digits are allowed than the number has
-digits_more : (most n : ℕ) → n < 10 ^ suc most → digits (suc most) n ≡ digits most n
-digits_more zero n h =
-    let e : n % 10 ≡ n = omega arith in
-    rw (lt-ltb n 10 (omega arith), e)
-digits_more (suc most) n h =
-    let e : 10 ^ suc (suc most) ≡ 10 * 10 ^ suc most = pow-succ' 10 (suc most) in
-    rw (digits_more most (n / 10) (omega arith))
 
 -- no more digits than are allowed
 digits-length : (most n : ℕ) → length (digits most n) ≤ suc most
@@ -37,17 +30,9 @@ digits_long (suc most) (suc k) n m l h =
     let some : 1 ≤ 10 ^ k = one-le-pow k 10 (omega arith) in
     rw (le-ltb n 10 (omega arith), length-append, digits_long most k (n / 10) (omega arith) (omega arith) (omega arith)) (omega arith)
 
--- one digit, two, and the last of several
-pub number_one : (n : ℕ) → n < 10 → number n ≡ (48 + n) ∷ []
+number_one : (n : ℕ) → n < 10 → number n ≡ (48 + n) ∷ []
 unfolding number
 number_one n h = rw (lt-ltb n 10 h)
-
-pub number_more : (n : ℕ) → 10 ≤ n → n < 10_000_000 → number n ≡ number (n / 10) ++ ((48 + n % 10) ∷ [])
-unfolding number
-number_more n l h = rw (le-ltb n 10 l, digits_more 5 (n / 10) (omega arith))
-
-pub number_two : (n : ℕ) → 10 ≤ n → n < 100 → number n ≡ (48 + n / 10) ∷ (48 + n % 10) ∷ []
-number_two n l h = rw (number_more n l (omega arith), number_one (n / 10) (omega arith))
 
 -- how long a number is
 pub number_short : (n : ℕ) → n < 10 → 1 ≡ length (number n)
@@ -56,9 +41,6 @@ number_short n h = rw (number_one n h)
 pub number-long : (k n : ℕ) → k ≤ 6 → 10 ^ k ≤ n → n < 10 ^ suc k → suc k ≡ length (number n)
 unfolding number
 number-long k n m l h = sym (digits_long 6 k n m l h)
-
-pub number_longer : (n : ℕ) → 10 ≤ n → n < 10_000_000 → length (number n) ≡ length (number (n / 10)) + 1
-number_longer n l h = rw (number_more n l h, length-append)
 
 pub number-most : (n : ℕ) → length (number n) ≤ 7
 unfolding number

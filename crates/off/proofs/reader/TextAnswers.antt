@@ -5,24 +5,35 @@ use mathlib.Core.List.{List, [], ◌∷◌}
 use Prim.Native.Nat.{ℕ, ◌*◌, ◌≤◌}
 use lib.IntN.{ℤ, pos}
 use lib.ListN.{length}
+use Rattle.std.specs.Prelude.{Option, None, Result, Err}
+use Rattle.std.specs.Option.{ok_or}
+use Rattle.std.specs.Result.{IsErrAnd}
+use Rattle.std.proofs.lemmas.Result.{err_from_is_err_and}
 use Rattle.maths.proofs.Tables.{length-tab, length-table}
-use Rattle.rules.specs.Refusals.{wrong_off}
+use Rattle.rules.specs.declared.refusals.Refusal.{Refusal}
 use Rattle.rules.specs.declared.counts.Counts.{Counts}
 use Rattle.rules.specs.Mesh.{corners}
 use Rattle.rules.proofs.Storage.Stored.{complex-stored, stored-held}
 use Rattle.rules.proofs.Texts.ReadGood.{corners-good}
-use Rattle.off.specs.declared.answers.Imported.{Imported}
 use Rattle.off.specs.Words.{Text, Found, none, found, after_found, coordinate}
 use Rattle.off.specs.Plain.{Ring, Plain, plain, several, ring, is_over}
 use Rattle.off.specs.Sewing.{Sewn, sewn, seam_among, sew_all, sew}
 use Rattle.off.specs.Calls.{laid}
 use Rattle.off.specs.Lying.{no_block, drawn, Matrices, Stands, PanelsRoom}
 use Rattle.off.specs.Wholes.{panels_then, body_then, Blanks, EndTaken, TextTaken}
-use Rattle.off.proofs.lines.Several.{not_found, length-laid}
+use Rattle.off.proofs.lines.Several.{not_found}
+use Rattle.off.proofs.reader.Laid.{length-laid}
+
+-- a `?` ends the function with the refusal w where nothing was found
+pub ended : {A B : Type 0} {o : Option A} {w x : Refusal} {r : Result B Refusal} → o ≡ None → Err x ≡ ok_or o w → IsErrAnd r (λ y. y ≡ x) → r ≡ Err w
+ended {w} {x} {r} n e h =
+    let p = err_from_is_err_and r h in
+    let is : Err x ≡ Err w = rw n at e in
+    cc
 
 -- nothing is found
-module _ {x : Found (List Ring)} {start : Sewn} {a : Imported} {m1 m2 m3 : List ℤ} where
-  pub end_none : x ≡ none → a.refusal ≡ wrong_off → Matrices m1 m2 m3 → EndTaken x start a m1 m2 m3
+module _ {x : Found (List Ring)} {start : Sewn} {a : Result Counts Refusal} {m1 m2 m3 : List ℤ} where
+  pub end_none : x ≡ none → a ≡ Err Refusal.WrongOff → Matrices m1 m2 m3 → EndTaken x start a m1 m2 m3
   end_none e w s = record { sizes = s; goes = λ rings u f. not_found (sym e ∙ f); ends = λ _. w }
 
   pub end_some : (rings : List Ring) → x ≡ found rings [] → Stands (sew_all start rings) a m1 m2 m3 → EndTaken x start a m1 m2 m3
@@ -47,8 +58,8 @@ module _ (n : ℕ) (t : Text) where
   all-rings e f = rw (e, f)
 
 -- a text is not plain
-module _ {x : Found Plain} {a : Imported} {m1 m2 m3 list : List ℤ} where
-  pub text-none : x ≡ none → a.refusal ≡ wrong_off → Matrices m1 m2 m3 → length list ≡ 288 → TextTaken x a m1 m2 m3 list
+module _ {x : Found Plain} {a : Result Counts Refusal} {m1 m2 m3 list : List ℤ} where
+  pub text-none : x ≡ none → a ≡ Err Refusal.WrongOff → Matrices m1 m2 m3 → length list ≡ 288 → TextTaken x a m1 m2 m3 list
   text-none e w s l = record {
     sizes = s;
     size = l;
@@ -84,7 +95,7 @@ corners-room n panels h few = record {
   few = few;
 }
 
-begins : (n : ℕ) → n ≤ 96 → (c : List ℤ) (rings : List Ring) {a : Imported} {m1 m2 m3 : List ℤ} →
+begins : (n : ℕ) → n ≤ 96 → (c : List ℤ) (rings : List Ring) {a : Result Counts Refusal} {m1 m2 m3 : List ℤ} →
     Stands (sew_all (sewn (drawn (corners_only n) no_block no_block)) rings) a m1 m2 m3 → Stands (sew (plain n c rings)) a m1 m2 m3
 unfolding sew
 begins n h c rings S = rw (corners-drawn n h) at S
@@ -100,7 +111,7 @@ module _ (corners panels : ℕ) (t : Text) where
     unfolding body_then
     body_is = rw e
 
-    pub body_taken : {a : Imported} {m1 m2 m3 list : List ℤ} → corners ≤ 96 → list ≡ laid c →
+    pub body_taken : {a : Result Counts Refusal} {m1 m2 m3 list : List ℤ} → corners ≤ 96 → list ≡ laid c →
         EndTaken (panels_then panels u) (sewn (drawn (corners_only corners) no_block no_block)) a m1 m2 m3 → TextTaken (body_then corners panels t) a m1 m2 m3 list
     body_taken {a} {m1} {m2} {m3} {list} h l E = rw body_is (taken (panels_then panels u) E)
       where

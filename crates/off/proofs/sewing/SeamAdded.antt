@@ -1,9 +1,10 @@
 -- A new seam in the matrices: what its stores leave is the pattern with that seam.
-use mathlib.Core.Path.{◌≡◌, refl, sym, ◌∙◌, ap}
+use mathlib.Core.Path.{◌≡◌, sym, ◌∙◌, ap}
 use mathlib.Core.List.{List}
 use Prim.Native.Nat.{ℕ, suc, ◌<◌}
 use native.Mathlib.Omega.{arith}
 use lib.IntN.{ℤ, pos, negsuc}
+use Rattle.std.specs.Prelude.{Ok}
 use Rattle.maths.specs.Tables.{tab}
 use Rattle.maths.proofs.Tables.{length-tab}
 use Rattle.grid.specs.Grid.{over, with_entry}
@@ -73,8 +74,6 @@ module _ {c : Counts} {a b : ℕ} {m1 m3 m1₁ m1₂ m3₁ m3₂ : List ℤ} (N 
       ends = ends-stored ends (X 1) N.corners.seams.drawn.ends e₃ e₄ ∙ ap (λ A. tab (seam_of A)) (sym seams);
     }
 
-  pub added : Joined (sewn_new a b) c m1 (record { counts = c'; refusal = 0 }) m1₂ m3₂
+  pub added : Joined (sewn_new a b) c m1 (Ok c') m1₂ m3₂
   unfolding sewn_new
-  added = record {
-    stands = λ m2 H flat. record { sizes = sizes m2 H; goes = λ _. (ap sewn (sym (grown m2 H)), after m2 H flat); ends = λ f. absurd (f refl) };
-  }
+  added = record { stands = λ m2 H flat. record { sizes = sizes m2 H; is = (ap sewn (sym (grown m2 H)), after m2 H flat) } }

@@ -1,24 +1,23 @@
 -- The sides of a ring in the matrices: what is left to meet, from where the loop stands, is the whole.
 use mathlib.Core.Path.{◌≡◌, refl, sym, ◌∙◌, ap}
-use mathlib.Core.Logic.{◌≢◌}
 use mathlib.Core.List.{List}
 use Prim.Native.Nat.{ℕ, ◌+◌, ◌-◌, ◌<◌, ◌≤◌}
 use native.Mathlib.Omega.{arith}
 use lib.IntN.{ℤ}
-use lib.ListN.{length, take}
+use lib.ListN.{length}
+use Rattle.std.specs.Prelude.{Result, Ok, Err}
 use Rattle.maths.specs.Repeat.{repeat}
 use Rattle.maths.proofs.Repeat.{turned, stopped, repeat-ended}
 use Rattle.rules.specs.declared.counts.Counts.{Counts}
+use Rattle.rules.specs.declared.refusals.Refusal.{Refusal}
 use Rattle.rules.specs.Counts.{count_of}
-use Rattle.rules.specs.Refusals.{accepted}
+use Rattle.rules.specs.Told.{refusal_number}
 use Rattle.rules.specs.Complex.{pattern, Layer, Complex}
 use Rattle.rules.specs.Good.{Held}
-use Rattle.off.specs.declared.answers.Imported.{Imported}
 use Rattle.off.specs.Plain.{Ring}
 use Rattle.off.specs.Rings.{corner_at, next_at}
 use Rattle.off.specs.Sewing.{Sewn, refused, sewn, Met, meet, meet_side}
 use Rattle.off.specs.Lying.{no_block, drawn, Drawn, Stands, Joined, TwoCorners, RingSeams, meet_sides}
-use Rattle.off.proofs.rings.Marks.{first-length}
 use Rattle.off.proofs.sewing.RingSides.{corner-below, next-below, next-apart}
 use Rattle.off.proofs.sewing.SidesMet.{meet-corners}
 use Rattle.off.proofs.sewing.SeamAdded.{drawn-sizes}
@@ -45,22 +44,7 @@ step_stops : (r : Ring) (Y : Complex) (l x : ℕ) → meet (corner_at r l) (next
 unfolding meet_side
 step_stops r Y l x e go = rw e
 
-module _ {c : Counts} {bytes : List ℕ} {n : ℕ} {m1₀ m3₀ : List ℤ} (R : RingSeams c bytes n m1₀ m3₀) where
-  abbrev r : Ring
-  r = take n bytes
-
-  long : length r ≡ n
-  long = first-length bytes n (omega (arith, R.on.room, R.on.few))
-
-  -- the lists keep their lengths
-  pub joined_sizes : {part : Complex → Sewn} {x : Imported} {m1' m3' : List ℤ} → Joined part c m1₀ x m1' m3' →
-      (length m1' ≡ length m1₀) × (length m3' ≡ length m3₀)
-  joined_sizes J =
-      let D = R.seams.drawn in
-      let old = drawn-sizes D in
-      let new = (J.stands R.seams.panels D.held D.flat).sizes in
-      (new.size1 ∙ sym old.size1, new.size3 ∙ sym old.size3)
-
+module _ {c : Counts} {r : Ring} {m1₀ m3₀ : List ℤ} (R : RingSeams c r m1₀ m3₀) where
   pub going_none : Going r c m1₀ c m1₀ m3₀ 0
   unfolding meet_sides
   going_none = record {
@@ -75,63 +59,59 @@ module _ {c : Counts} {bytes : List ℕ} {n : ℕ} {m1₀ m3₀ : List ℤ} (R :
     with_panels : SidesHere r (drawn c m1₀ R.seams.panels) counts m1 R.seams.panels m3 l
     with_panels = G.here R.seams.panels R.seams.drawn.held R.seams.drawn.flat
 
-    module _ (h : l < n) {a b : ℕ} (ea : a ≡ corner_at r l) (eb : b ≡ next_at r l) where
+    module _ (h : l < length r) {a b : ℕ} (ea : a ≡ corner_at r l) (eb : b ≡ next_at r l) where
       pub two_corners : TwoCorners counts a b m1 m3
       two_corners =
-          let i : l < length r = omega (arith, long) in
           let same = with_panels.corners in
           record {
             seams = record { panels = R.seams.panels; drawn = with_panels.lies };
-            apart = rw (ea, eb) (next-apart r R.ring l i);
-            first = omega (arith, corner-below r R.on.below l i);
-            second = omega (arith, next-below r R.on.below l i);
+            apart = rw (ea, eb) (next-apart r R.ring l h);
+            first = omega (arith, corner-below r R.on.below l h);
+            second = omega (arith, next-below r R.on.below l h);
           }
 
-      module _ {x : Imported} {m1' m3' : List ℤ} (J : Joined (meet a b) counts m1 x m1' m3') where
-        met : (m2 : List ℤ) → Held (pattern c m1₀ m2 no_block) → count_of c 3 ≡ 0 → Stands (meet (corner_at r l) (next_at r l) (drawn counts m1 m2)) x m1' m2 m3'
-        met m2 H flat =
-            let S = (G.here m2 H flat).lies in
-            rw (← ea, ← eb) (J.stands m2 S.held S.flat)
+      met : {x : Result Counts Refusal} {m1' m3' : List ℤ} → Joined (meet a b) counts m1 x m1' m3' → (m2 : List ℤ) → Held (pattern c m1₀ m2 no_block) → count_of c 3 ≡ 0
+          → Stands (meet (corner_at r l) (next_at r l) (drawn counts m1 m2)) x m1' m2 m3'
+      met J m2 H flat =
+          let S = (G.here m2 H flat).lies in
+          rw (← ea, ← eb) (J.stands m2 S.held S.flat)
 
-        pub going_on : x.refusal ≡ accepted → Going r c m1₀ x.counts m1' m3' (l + 1)
-        going_on ok = record {
-          inside = omega (arith, long);
-          here = λ m2 H flat.
-              let S = G.here m2 H flat in
-              let T = two_corners in
-              let went = (met m2 H flat).goes ok in
-              let same : count_of x.counts 0 ≡ count_of counts 0 =
-              ap (λ (A : Layer). A.n) (meet-corners S.lies.held.good a b T.apart T.first T.second {Y = drawn x.counts m1' m2} (rw (ea, eb) went.0)) in
-              let one : length r - (l + 1) ≡ length r - l - 1 = omega arith in
-              record {
-                lies = went.1;
-                corners = same ∙ S.corners;
-                rest = rw one (turned (meet_side r) side_done (drawn counts m1 m2, l) (omega (arith, long)) (step-on r (drawn counts m1 m2) (drawn x.counts m1' m2) l went.0) ∙ S.rest);
-              };
-        }
+      pub going_on : {counts' : Counts} {m1' m3' : List ℤ} → Joined (meet a b) counts m1 (Ok counts') m1' m3' → Going r c m1₀ counts' m1' m3' (l + 1)
+      going_on {counts'} {m1'} {m3'} J = record {
+        inside = omega arith;
+        here = λ m2 H flat.
+            let S = G.here m2 H flat in
+            let T = two_corners in
+            let went = (met J m2 H flat).is in
+            let same : count_of counts' 0 ≡ count_of counts 0 =
+            ap (λ (A : Layer). A.n) (meet-corners S.lies.held.good a b T.apart T.first T.second {Y = drawn counts' m1' m2} (rw (ea, eb) went.0)) in
+            let one : length r - (l + 1) ≡ length r - l - 1 = omega arith in
+            record {
+              lies = went.1;
+              corners = same ∙ S.corners;
+              rest = rw one (turned (meet_side r) side_done (drawn counts m1 m2, l) (omega arith) (step-on r (drawn counts m1 m2) (drawn counts' m1' m2) l went.0) ∙ S.rest);
+            };
+      }
 
-        pub going_stops : x.refusal ≢ accepted → Joined (meet_sides r) c m1₀ x m1' m3'
-        going_stops stop = record {
-          stands = λ m2 H flat.
-              let S = G.here m2 H flat in
-              let went = met m2 H flat in
-              record {
-                sizes = went.sizes;
-                goes = λ ok. absurd (stop ok);
-                ends = λ _.
-                    sym S.rest
-                    ∙ sym (stopped (meet_side r) side_done (drawn counts m1 m2, l) (omega (arith, long)) (step_stops r (drawn counts m1 m2) l x.refusal (went.ends stop)));
-              };
-        }
+      pub going_stops : {x : Refusal} {m1' m3' : List ℤ} → Joined (meet a b) counts m1 (Err x) m1' m3' → Joined (meet_sides r) c m1₀ (Err x) m1' m3'
+      going_stops {x} J = record {
+        stands = λ m2 H flat.
+            let S = G.here m2 H flat in
+            let went = met J m2 H flat in
+            record {
+              sizes = went.sizes;
+              is = sym S.rest
+                  ∙ sym (stopped (meet_side r) side_done (drawn counts m1 m2, l) (omega arith) (step_stops r (drawn counts m1 m2) l (refusal_number x) went.is));
+            };
+      }
 
-    pub going_done : n ≤ l → Joined (meet_sides r) c m1₀ (record { counts = counts; refusal = accepted }) m1 m3
+    pub going_done : length r ≤ l → Joined (meet_sides r) c m1₀ (Ok counts) m1 m3
     going_done h = record {
       stands = λ m2 H flat.
           let S = G.here m2 H flat in
-          let none : length r - l ≡ 0 = omega (arith, long) in
+          let none : length r - l ≡ 0 = omega arith in
           record {
             sizes = drawn-sizes S.lies;
-            goes = λ _. (sym S.rest ∙ sym (repeat-ended (meet_side r) side_done (drawn counts m1 m2, l) none refl), S.lies);
-            ends = λ f. absurd (f refl);
+            is = (sym S.rest ∙ sym (repeat-ended (meet_side r) side_done (drawn counts m1 m2, l) none refl), S.lies);
           };
     }

@@ -8,17 +8,17 @@ use native.Mathlib.Omega.{arith}
 use borrow.Author.Tests.{ne_eqb}
 use lib.Dec.{eqb}
 use lib.IntN.{ℤ, pos, nat_abs, ◌*ℤ◌, *ℤ-zero, +ℤ_idl, +ℤ_idr}
-use lib.Signed.{mag}
-use lib.ListN.{length, get_or, take}
+use lib.ListN.{length, get_or}
 use mir.Syntax.{w8}
 use mir.Val.{of_z, to_z}
+use mir.Facts.{to_z-of_z}
 use Rattle.maths.specs.Tables.{Entries, entries}
 use Rattle.maths.specs.Sums.{δ}
 use Rattle.maths.proofs.Integers.{*ℤ_1}
 use Rattle.maths.proofs.Cases.{eqb_same, eq_or}
 use Rattle.maths.proofs.Sums.{sum-next, δ_same, δ_no}
-use Rattle.maths.proofs.Tables.{tab-entries, tab_same}
-use Rattle.maths.proofs.Sizes.{entry_read}
+use Rattle.maths.proofs.Tables.{entries_in, tab-entries, tab_same}
+use Rattle.maths.proofs.Sizes.{fits_size}
 use Rattle.grid.specs.Grid.{over, with_entry}
 use Rattle.rules.specs.Edits.{put}
 use Rattle.rules.specs.Operators.{Faces, chain_of}
@@ -28,7 +28,6 @@ use Rattle.off.specs.Plain.{Ring}
 use Rattle.off.specs.Rings.{corner_at, next_at}
 use Rattle.off.specs.Sewing.{signum, sides}
 use Rattle.off.specs.Lying.{SidesRoom, SideRoom, with_sides}
-use Rattle.off.proofs.rings.Marks.{first-length}
 use Rattle.off.proofs.sewing.RingSides.{corner-below, next-below}
 use Rattle.off.proofs.sewing.SewnStored.{seen, over-size}
 
@@ -56,15 +55,9 @@ pub record SidesStand (r : Ring) (m3 old : List ℤ) (j : ℕ) (m : List ℤ) (l
   pub inside : l ≤ length r
   pub is : m ≡ over (with_first (sides (entries m3) r) l j) old
 
-module _ {bytes : List ℕ} {n : ℕ} {m3 old : List ℤ} {j : ℕ} (S : SidesRoom bytes n m3 old j) where
-  abbrev r : Ring
-  r = take n bytes
-
+module _ {r : Ring} {m3 old : List ℤ} {j : ℕ} (S : SidesRoom r m3 old j) where
   abbrev F : Faces
   F = sides (entries m3) r
-
-  long : length r ≡ n
-  long = first-length bytes n (omega (arith, S.room, S.few))
 
   pub stand-none : SidesStand r m3 old j old 0
   unfolding over
@@ -77,35 +70,37 @@ module _ {bytes : List ℕ} {n : ℕ} {m3 old : List ℤ} {j : ℕ} (S : SidesRo
     pub stand-size : length m ≡ length old
     stand-size = over-size _ old P.is ∙ sym S.size2
 
-    pub stand-all : n ≤ l → m ≡ over (with_sides r (entries m3) j) old
+    pub stand-all : length r ≤ l → m ≡ over (with_sides r (entries m3) j) old
     unfolding over with_sides
-    stand-all h = let all : l ≡ length r = omega (arith, long, P.inside) in rw all at P.is
+    stand-all h = let all : l ≡ length r = omega (arith, P.inside) in rw all at P.is
 
     -- the next side
-    module _ (h : l < n) {a b : ℕ} (ea : a ≡ corner_at r l) (eb : b ≡ next_at r l) where
+    module _ (h : l < length r) {a b : ℕ} (ea : a ≡ corner_at r l) (eb : b ≡ next_at r l) where
       pub corner-low : a < 96
-      corner-low = rw ea (corner-below r S.low l (omega (arith, long)))
+      corner-low = rw ea (corner-below r S.corners.low l h)
 
       pub next_low : b < 96
-      next_low = rw eb (next-below r S.low l (omega (arith, long)))
+      next_low = rw eb (next-below r S.corners.low l h)
 
-      module _ (small : mag (get_or m3 (96 * b + a) (pos 0)) < 2 ^ 7) where
-        side_read : to_z w8 (of_z w8 (get_or m3 (96 * b + a) (pos 0))) ≡ entries m3 (corner_at r l) (next_at r l)
-        side_read = rw (← ea, ← eb) (entry_read m3 a b corner-low next_low small)
+      -- the entry that is read
+      side_read : to_z w8 (of_z w8 (get_or m3 (96 * b + a) (pos 0))) ≡ entries m3 (corner_at r l) (next_at r l)
+      side_read =
+          let small : nat_abs (entries m3 a b) < 2 ^ 7 = omega (arith, S.small a b) in
+          rw (← ea, ← eb, ← entries_in m3 a b corner-low next_low) (to_z-of_z {w = w8} (fits_size small))
 
-        pub side_room : SideRoom m j (to_z w8 (of_z w8 (get_or m3 (96 * b + a) (pos 0))))
-        side_room = rw side_read
-            (record { size = stand-size ∙ S.size2; inside = S.inside; some = S.some l h; small = S.small (corner_at r l) (next_at r l) })
+      pub side_room : SideRoom m j (to_z w8 (of_z w8 (get_or m3 (96 * b + a) (pos 0))))
+      side_room = rw side_read
+          (record { size = stand-size ∙ S.size2; inside = S.inside; some = S.some l h; small = S.small (corner_at r l) (next_at r l) })
 
-        pub stand_more : {m' : List ℤ} →
-            let z = to_z w8 (of_z w8 (get_or m3 (96 * b + a) (pos 0))) in m' ≡ over (with_entry (pred (nat_abs z)) j (signum z)) m → SidesStand r m3 old j m' (l + 1)
-        unfolding over with_entry
-        stand_more {m'} e = record { inside = omega (arith, long); is = rw side_read at e ∙ tab_same entry }
-          where
-            new : (k : ℕ) → k < l → F.number k ≢ F.number l
-            new k i = S.apart k l (omega arith) h (omega arith)
+      pub stand_more : {m' : List ℤ} →
+          let z = to_z w8 (of_z w8 (get_or m3 (96 * b + a) (pos 0))) in m' ≡ over (with_entry (pred (nat_abs z)) j (signum z)) m → SidesStand r m3 old j m' (l + 1)
+      unfolding over with_entry
+      stand_more {m'} e = record { inside = omega arith; is = rw side_read at e ∙ tab_same entry }
+        where
+          new : (k : ℕ) → k < l → F.number k ≢ F.number l
+          new k i = S.apart k l (omega arith) h (omega arith)
 
-            entry : (i j' : ℕ) → i < 96 → j' < 96 → with_entry (F.number l) j (F.sign l) (entries m) i j' ≡ with_first F (l + 1) j (entries old) i j'
-            entry i j' hi hj = rw (seen (with_first F l j) old P.is i j' hi hj) (eq_or j' j
-                (λ q. rw (q, eqb_same j, put_same, put_same) (sym (chain_next F l i new)))
-                (λ q. rw (ne_eqb j' j q, put_no j (chain_of (up_to F l) i) (entries old i) j' q, put_no j (chain_of (up_to F (l + 1)) i) (entries old i) j' q)))
+          entry : (i j' : ℕ) → i < 96 → j' < 96 → with_entry (F.number l) j (F.sign l) (entries m) i j' ≡ with_first F (l + 1) j (entries old) i j'
+          entry i j' hi hj = rw (seen (with_first F l j) old P.is i j' hi hj) (eq_or j' j
+              (λ q. rw (q, eqb_same j, put_same, put_same) (sym (chain_next F l i new)))
+              (λ q. rw (ne_eqb j' j q, put_no j (chain_of (up_to F l) i) (entries old i) j' q, put_no j (chain_of (up_to F (l + 1)) i) (entries old i) j' q)))

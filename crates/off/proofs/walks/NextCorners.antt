@@ -2,7 +2,7 @@
 use mathlib.Core.Path.{◌≡◌, refl, sym, ap, ◌∙◌}
 use mathlib.Core.Bool.{not, cond, ◌&&◌}
 use mathlib.Core.List.{List}
-use Prim.Native.Nat.{ℕ, ◌+◌, ◌<◌, ◌≤◌}
+use Prim.Native.Nat.{ℕ, ◌+◌, ◌<◌}
 use native.Mathlib.Numerals.{add-one}
 use native.Mathlib.Omega.{arith}
 use borrow.Author.Tests.{eq-eqb, ne_eqb}
@@ -17,7 +17,6 @@ use Rattle.maths.proofs.Tables.{length-table, get_d_table, is-table}
 use Rattle.rules.specs.Complex.{Chain}
 use Rattle.off.specs.Sewing.{SeamEnds}
 use Rattle.off.specs.Exporting.{leaves_by, next_among}
-use Rattle.off.specs.Walking.{next_by}
 
 -- a value is stored in a table
 set-table : (n : ℕ) (f : ℕ → ℕ) (a v : ℕ) → a < n → set (table n f) a v ≡ table n (λ b. cond (eqb a b) v (f b))
@@ -48,15 +47,11 @@ seam_more E v i low-tail low-head {next} e =
     (λ _. set-table 97 f b a (omega arith)))
 
 -- the entry z was read, and `after` was made of it
-pub seam_put : (E : SeamEnds) (v : Chain) (i : ℕ) → E.tail i < 96 → E.head i < 96 → {next after : List ℕ} {z : ℤ} → next ≡ table 97 (next_among E v i) → z ≡ v i →
+pub seam_put : (E : SeamEnds) (v : Chain) (i : ℕ) → E.tail i < 96 → E.head i < 96 → {next after : List ℕ} {z : ℤ} →
+    next ≡ table 97 (next_among E v i) → z ≡ v i →
     after ≡ cond (is_zero z) next (cond (eq_z z (pos 1)) (set next (E.tail i) (E.head i)) (set next (E.head i) (E.tail i))) →
     after ≡ table 97 (next_among E v (i + 1))
 seam_put E v i low-tail low-head e read put = put ∙ rw read (seam_more E v i low-tail low-head e)
-
--- panel j, and the list after the first i of n seams
-pub record NextSoFar (m2 : List ℤ) (j n : ℕ) (tails heads next : List ℕ) (i : ℕ) : Type 0 where
-  pub upto : i ≤ n
-  pub is : next ≡ table 97 (next_by m2 j i tails heads)
 
 pub table-long : {next : List ℕ} (f : ℕ → ℕ) → next ≡ table 97 f → length next ≡ 97
 table-long f e = ap length e ∙ length-table 0 97 f

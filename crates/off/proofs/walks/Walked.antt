@@ -6,20 +6,21 @@ use Prim.Native.Nat.{ℕ, zero, suc, ◌+◌, ◌<◌, ◌≤◌}
 use native.Mathlib.Omega.{arith}
 use borrow.Author.Tests.{ltb-true, lt-ltb, le-ltb, eqb-true, ne_eqb}
 use lib.Dec.{eqb, ltb}
-use lib.IntN.{pos}
-use lib.ListN.{length, take, get_or-eq_default}
+use lib.IntN.{ℤ, pos}
+use lib.ListN.{length, get_or-eq_default}
 use Rattle.maths.specs.Tests.{eq_z, is_zero}
-use Rattle.maths.specs.Tables.{table}
-use Rattle.maths.proofs.Cases.{by_bool, eq_or, lt_or, no_eq, and_left, and_right, cond-true, cond-false}
+use Rattle.maths.specs.Tables.{table, column}
+use Rattle.maths.proofs.Cases.{by_bool, eq_or, lt_or, no_eq, and_left, and_right}
 use Rattle.maths.proofs.Tests.{all_of}
 use Rattle.maths.proofs.Tables.{get_d_table}
 use Rattle.maths.proofs.Sums.{join_same}
 use Rattle.rules.specs.Complex.{Chain}
+use Rattle.off.specs.declared.ends.Ends.{Ends}
 use Rattle.off.specs.Rings.{corners_below, is_ring}
-use Rattle.off.specs.RingBytes.{Corners}
 use Rattle.off.specs.Sewing.{SeamEnds}
 use Rattle.off.specs.Exporting.{list_of, leaves_by, comes_from, goes_to, next_among, lowest_from, start_of, steps_from, walked, closes_up}
-use Rattle.off.specs.Walking.{byte_of, Walk, WentRound, RingWalked}
+use Rattle.off.specs.RingBytes.{Corners}
+use Rattle.off.specs.Walking.{byte_of, ends_by, next_by, Walk, PanelRoom, WentRound}
 use Rattle.off.proofs.Rounds.Listed.{listed-length, listed_at}
 use Rattle.off.proofs.walks.NextCorners.{table-long}
 
@@ -57,6 +58,10 @@ module _ (E : SeamEnds) (v : Chain) where
 
   pub steps_of : (n : ℕ) → ((j : ℕ) → j < n → E.tail j < 96) → ((j : ℕ) → j < n → E.head j < 96) → StepsLow (next_among E v n)
   steps_of n t h = record { low = next_low n t h; stays = next-stays n t h }
+
+-- the steps of a panel
+pub panel-steps : {m2 : List ℤ} {j : ℕ} {ends : List Ends} → PanelRoom m2 j ends → StepsLow (next_by m2 j ends)
+panel-steps {m2} {j} {ends} P = steps_of (ends_by ends) (column m2 j) (length ends) P.seams.tail P.seams.head
 
 lowest_le : (n a : ℕ) (p : ℕ → Bool) → lowest_from n a p ≤ a + n
 unfolding lowest_from
@@ -128,52 +133,48 @@ module _ {f : ℕ → ℕ} (S : StepsLow f) {next : List ℕ} (e : next ≡ tabl
     start-inside = rw start_is start-low
 
     -- nowhere
-    pub round_none : 96 ≤ start → (n : ℕ) (bytes : List ℕ) → WentRound f n false bytes
-    round_none h n bytes = record { back = rw (← start_is, le-ltb start 96 h); ring = λ t. no_eq t }
+    pub round_none : 96 ≤ start → (ring : List ℕ) → WentRound f false ring
+    round_none h ring = record { back = rw (← start_is, le-ltb start 96 h); corners = λ t. no_eq t }
 
-    -- or at a corner, and then what it met on n steps
-    module _ (h : start < 96) {n end : ℕ} {bytes : List ℕ} (W : Walk next start n end bytes) where
-      end_is : end ≡ steps_from f (start_of f) n
-      end_is = W.comes ∙ steps_same start start-inside n ∙ ap (λ a. steps_from f a n) start_is
+    -- or at a corner, and then what it met on the steps
+    module _ (h : start < 96) {end : ℕ} {ring : List ℕ} (W : Walk next start end ring) where
+      end_is : end ≡ steps_from f (start_of f) (length ring)
+      end_is = W.comes ∙ steps_same start start-inside (length ring) ∙ ap (λ a. steps_from f a (length ring)) start_is
 
-      met : take n bytes ≡ list_of n (steps_from f start)
-      met = W.ring ∙ join_same n (λ l _. ap (λ c. c ∷ []) (steps_same start start-inside l))
+      met : ring ≡ list_of (length ring) (steps_from f start)
+      met = W.corners ∙ join_same (length ring) (λ l _. ap (λ c. c ∷ []) (steps_same start start-inside l))
 
-      ring-is : take n bytes ≡ walked f n
+      ring-is : ring ≡ walked f (length ring)
       unfolding walked
-      ring-is = met ∙ ap (λ a. list_of n (steps_from f a)) start_is
+      ring-is = met ∙ ap (λ a. list_of (length ring) (steps_from f a)) start_is
 
-      pub round_walked : {r : Bool} → r ≡ eqb end start → WentRound f n r bytes
-      round_walked q = record { back = q ∙ rw (← end_is, ← start_is, lt-ltb start 96 h); ring = λ _. ring-is }
+      pub round_walked : {r : Bool} → r ≡ eqb end start → WentRound f r ring
+      round_walked q = record { back = q ∙ rw (← end_is, ← start_is, lt-ltb start 96 h); corners = λ _. ring-is }
 
 -- a walk that went round, or not
-module _ {f : ℕ → ℕ} {n : ℕ} {r : Bool} {bytes : List ℕ} (W : WentRound f n r bytes) where
-  closing : closes_up f n ≡ r && is_ring (walked f n)
+module _ {f : ℕ → ℕ} {r : Bool} {ring : List ℕ} (W : WentRound f r ring) where
+  closing : closes_up f (length ring) ≡ r && is_ring (walked f (length ring))
   unfolding closes_up
   closing = rw W.back
 
-  open_walk : closes_up f n ≡ false → RingWalked f n 0 bytes
-  open_walk q = record { count = sym (cond-false n 0 q); ring = λ t. no_eq (sym q ∙ t) }
-
   -- where it closes up, it went round
-  pub went_round : closes_up f n ≡ true → r ≡ true
-  went_round e = and_left r (is_ring (walked f n)) (sym closing ∙ e)
+  pub went_round : closes_up f (length ring) ≡ true → r ≡ true
+  went_round e = and_left r (is_ring (walked f (length ring))) (sym closing ∙ e)
 
-  pub not_round : r ≡ false → RingWalked f n 0 bytes
-  not_round q = open_walk (closing ∙ rw q)
+  pub not_round : r ≡ false → closes_up f (length ring) ≡ false
+  not_round q = closing ∙ rw q
 
   module _ (q : r ≡ true) where
-    pub no_ring : is_ring (take n bytes) ≡ false → RingWalked f n 0 bytes
-    no_ring t = open_walk (closing ∙ rw (← W.ring q, q, t))
+    -- whether it closes up, its corners tell
+    pub ring_tells : closes_up f (length ring) ≡ is_ring ring
+    ring_tells = closing ∙ rw (q, ← W.corners q)
 
-    pub one_ring_lem : is_ring (take n bytes) ≡ true → RingWalked f n n bytes
-    one_ring_lem t = record { count = sym (cond-true n 0 (closing ∙ rw (← W.ring q, q, t))); ring = λ _. W.ring q }
-
-    pub corners-low : StepsLow f → n ≤ 96 → length bytes ≡ 96 → Corners bytes n
+    pub corners-low : StepsLow f → length ring ≤ 96 → Corners ring
     unfolding walked
-    corners-low S few room =
+    corners-low S few =
         let a = start_of f in
+        let n = length ring in
         let both : ltb a 96 && eqb (steps_from f a n) a ≡ true = sym W.back ∙ q in
         let start : a < 96 = ltb-true a 96 (and_left (ltb a 96) _ both) in
         let back : steps_from f a n ≡ a = eqb-true (steps_from f a n) a (and_right (ltb a 96) _ both) in
-        record { room = room; few = few; low = rw (W.ring q) (listed-low S a (omega arith) n (omega arith)) }
+        record { few = few; low = rw (W.corners q) (listed-low S a (omega arith) n (omega arith)) }

@@ -1,96 +1,107 @@
--- The digits at the front of a text, one after the other, and the number or the coordinate that they are.
-use mathlib.Core.Path.{◌≡◌, refl, sym, ap, ◌∙◌}
-use mathlib.Core.Bool.{Bool, true, false, cond, ◌&&◌}
-use mathlib.Core.List.{List, [], ◌∷◌}
-use Prim.Native.Nat.{ℕ, suc, ◌+◌, ◌-◌, ◌*◌, ◌^◌, ◌<◌, ◌≤◌}
-use native.Mathlib.Nat.{pow-succ', pow-le-pow_right}
-use native.Mathlib.Numerals.{add-one}
-use native.Mathlib.Omega.{arith}
+-- The digits at the front of a text, and the number or the coordinate that they are.
+use Rattle.std.proofs.Common.{◌≡◌, ℕ, suc, ◌+◌, ◌-◌, ◌*◌, ◌^◌, ◌<◌, ◌≤◌, true, false, cond, ◌&&◌, ◌⊎◌, inl, inr, ℤ, pos, neg_ℤ, nat_abs, List, [], ◌∷◌, length, get_or, take, drop, refl, sym, ap, ◌∙◌, arith}
+use Rattle.std.proofs.Math.Numerals.{one-add, add-one}
+use Rattle.std.proofs.Math.Nat.{pow-succ', pow-le-pow_right}
+use Rattle.std.proofs.Math.Seq.{length-take-le, get_or-take}
+use Rattle.std.specs.List.{prefix_len}
+use Rattle.std.proofs.lemmas.List.Sums.{prefix_len-le-length, prefix_len_passes, fold_more}
+use Rattle.std.proofs.lemmas.Bool.Decides.{nat_tests}
+use Rattle.std.proofs.lemmas.Grind.{common_steps}
+use Rattle.std.proofs.Math.Bool.{and-false}
+use Rattle.std.proofs.Math.Nat.{add-zero, zero-add}
+use borrow.Author.Tests.{leb-true}
 use lib.Dec.{leb}
-use lib.IntN.{pos}
-use lib.ListN.{length, get_or, drop}
-use borrow.Author.Tests.{le-leb, lt-leb, leb-true}
-use Rattle.maths.proofs.Cases.{by_bool, and_left, and_right}
-use Rattle.off.specs.Words.{Text, none, found, is_digit, word_ends, Digits, the_digits, digits_from, number_of, farthest, minus}
-use Rattle.off.specs.Reading.{IsLimited}
-use Rattle.off.specs.declared.words.Number.{Number}
-use Rattle.off.specs.declared.words.Signed.{Signed}
-use Rattle.off.proofs.words.Texts.{text_at, text-over}
+use Rattle.maths.proofs.Cases.{bool_or}
+use Rattle.rules.specs.Form.{within}
+use Rattle.off.specs.Words.{Text, Found, none, found, farthest, minus, limited, is_digit, word_ends, the_digits, digits_from, number_here}
+use Rattle.off.specs.Reading.{value_from, FewDigits}
 
-pub digit-from : (b : ℕ) → is_digit b ≡ true → 48 ≤ b
-unfolding is_digit
-digit-from b e = leb-true 48 b (and_left (leb 48 b) (leb b 57) e)
-
-pub digit_to : (b : ℕ) → is_digit b ≡ true → b ≤ 57
-unfolding is_digit
-digit_to b e = leb-true b 57 (and_right (leb 48 b) (leb b 57) e)
-
-module _ (s : List ℕ) (at n k : ℕ) where
-  pub digit_more : at < length s → is_digit (get_or s at 0) ≡ true
-      → digits_from (10 * n + (get_or s at 0 - 48)) (k + 1) (drop (at + 1) s) ≡ digits_from n k (drop at s)
-  unfolding digits_from
-  digit_more h e = rw (text_at s at h, e, add-one k)
-
-  pub digit-none : at < length s → is_digit (get_or s at 0) ≡ false → the_digits n k (drop at s) ≡ digits_from n k (drop at s)
-  unfolding digits_from
-  digit-none h e = rw (text_at s at h, e)
-
-  pub digit-over : length s ≤ at → the_digits n k (drop at s) ≡ digits_from n k (drop at s)
-  unfolding digits_from
-  digit-over h = rw (text-over s at h)
-
--- no digit is lost
-pub count-least : (n k : ℕ) (t : Text) → k ≤ (digits_from n k t).count
+-- the digits that a text begins with
+pub digits_are : (n k : ℕ) (t : Text) →
+    digits_from n k t ≡ the_digits (value_from n (take (prefix_len is_digit t) t)) (k + prefix_len is_digit t) (drop (prefix_len is_digit t) t)
 unfolding digits_from
-count-least n k [] = omega arith
-count-least n k (b ∷ t) =
-    by_bool (is_digit b) (λ x. k ≤ (cond x (digits_from (10 * n + (b - 48)) (suc k) t) (the_digits n k (b ∷ t))).count)
-    (λ _. omega (arith, count-least (10 * n + (b - 48)) (suc k) t))
-    (λ _. omega arith)
+digits_are n k [] = rw add-zero refl
+digits_are n k (b ∷ t) =
+    let p = prefix_len is_digit t in
+    let further : suc k + p ≡ k + suc p = omega arith in
+    elim (is_digit b) as (λ x. cond x (digits_from (10 * n + (b - 48)) (suc k) t) (the_digits n k (b ∷ t)) ≡
+    the_digits (value_from n (take (cond x (1 + p) 0) (b ∷ t))) (k + cond x (1 + p) 0) (drop (cond x (1 + p) 0) (b ∷ t)))
+    [ true ↦ rw (one-add, ← further) (digits_are (10 * n + (b - 48)) (suc k) t) | false ↦ rw add-zero refl ]
 
--- one digit more of a number that has k digits
-pub pow_more : (n d k : ℕ) → n < 10 ^ k → d ≤ 9 → 10 * n + d < 10 ^ (k + 1)
-pow_more n d k h l = rw (add-one k, pow-succ' 10 k) (omega arith)
+-- the value of the first i digits
+pub record ValueSoFar (digits : List ℕ) (i n : ℕ) : Type 0 where
+  pub is : n ≡ value_from 0 (take i digits)
+  pub small : n < 10 ^ i
 
-pub pow_small : {k : ℕ} → k ≤ 6 → 10 ^ k ≤ 1_000_000
-pow_small h = pow-le-pow_right (omega arith) h
+digit_near : (b : ℕ) → is_digit b ≡ true → (48 ≤ b) × (b ≤ 57)
+unfolding is_digit
+digit_near b e = grind (arith, nat_tests)
 
-pub long-number : (d : Digits) → 7 < d.count → none ≡ number_of d
-long-number d h = rw (le-leb 1 d.count (omega arith), lt-leb d.count 7 h)
+-- one digit more
+module _ {digits : List ℕ} {i n : ℕ} (V : ValueSoFar digits i n) (F : FewDigits digits) (h : i < length digits) where
+  pub value_more : ValueSoFar digits (i + 1) (10 * n + (get_or digits i 0 - 48))
+  value_more =
+      let D = digit_near (get_or digits i 0) (F.all i h) in
+      record {
+        is = ap (λ m. 10 * m + (get_or digits i 0 - 48)) V.is ∙ sym (fold_more _ 0 digits i 0 h);
+        small = rw (add-one i, pow-succ' 10 i) (let z = V.small in omega arith);
+      }
 
--- a digit after seven
-pub digit-past : (s : List ℕ) (at n k : ℕ) {d : Digits} → at < length s → is_digit (get_or s at 0) ≡ true → 7 ≤ k
-    → digits_from n k (drop at s) ≡ d → none ≡ number_of d
-digit-past s at n k h e l q =
-    let longer = 10 * n + (get_or s at 0 - 48) in
-    rw (← q, ← digit_more s at n k h e)
-    (long-number (digits_from longer (k + 1) (drop (at + 1) s)) (omega (arith, count-least longer (k + 1) (drop (at + 1) s))))
+  pub value_fits : (48 ≤ get_or digits i 0) × (get_or digits i 0 ≤ 57) × (n < 1_000_000)
+  value_fits =
+      let D = digit_near (get_or digits i 0) (F.all i h) in
+      let few = F.few in
+      let least : i ≤ 6 = omega arith in
+      let p : 10 ^ i ≤ 10 ^ 6 = pow-le-pow_right (omega arith) least in
+      (D.0, D.1, let small = V.small in omega arith)
 
--- how a number ends: without a digit, inside a word, or found
-module _ (n : ℕ) (t : Text) where
-  pub no_digit : (k : ℕ) → k ≡ 0 → none ≡ number_of (the_digits n k t)
-  no_digit k e = rw e
+-- the number at the front of a text
+module _ (s : Text) where
+  abbrev front : ℕ
+  front = prefix_len is_digit s
 
-  pub no_end : (k : ℕ) → word_ends t ≡ false → none ≡ number_of (the_digits n k t)
-  no_end k e = by_bool (leb 1 k && leb k 7) (λ x. none ≡ cond (x && word_ends t) (found n t) none) (λ _. rw e) (λ _. refl)
+  number_is : number_here s ≡ cond (within 1 7 front && word_ends (drop front s)) (found (value_from 0 (take front s)) (drop front s)) none
+  unfolding number_here
+  number_is = rw (digits_are 0 0 s, zero-add front)
 
-  pub a_number : (k : ℕ) → 1 ≤ k → k ≤ 7 → word_ends t ≡ true → found n t ≡ number_of (the_digits n k t)
-  a_number k l h e = rw (le-leb 1 k l, le-leb k 7 h, e)
+  pub no_number : (front < 1) ⊎ (7 < front) ⊎ (word_ends (drop front s) ≡ false) → none ≡ number_here s
+  no_number h = rw number_is (elim h [
+    | inl a ↦ grind (arith, nat_tests)
+    | inr k ↦ elim k [
+      | inl b ↦ grind (arith, nat_tests)
+      | inr e ↦ rw (e, and-false) refl
+    ]
+  ])
 
--- a call answered r: the contract says what its reading f is, and the arm that took it what r is
-pub told : {A B : Type 0} (f : A → B) {r y : A} {x : B} → f r ≡ x → r ≡ y → x ≡ f y
-told f e q = sym e ∙ ap f q
+  pub a_number : 1 ≤ front → front ≤ 7 → word_ends (drop front s) ≡ true → found (value_from 0 (take front s)) (drop front s) ≡ number_here s
+  a_number l h e = grind (arith, nat_tests, number_is, common_steps)
 
--- a number as a coordinate
-pub limited-none : {b : Bool} → IsLimited Number.None b Signed.None
-limited-none = record { is = λ s. refl }
+  cut : length (take front s) ≡ front
+  cut = length-take-le front s (prefix_len-le-length is_digit s)
 
-module _ {n next : ℕ} where
-  pub limited_far : {b : Bool} → farthest < n → IsLimited (Number.Found n next) b Signed.None
-  limited_far h = record { is = λ s. rw (lt-leb n farthest h) }
+  pub digits_few : front ≤ 7 → FewDigits (take front s)
+  digits_few h = record {
+    few = omega (arith, cut);
+    all = λ k l. let m : k < front = omega (arith, cut) in rw get_or-take (prefix_len_passes is_digit s k 0 (omega (arith, cut)));
+  }
 
-  pub limited-minus : n ≤ farthest → IsLimited (Number.Found n next) true (Signed.Found (minus n) next)
-  limited-minus h = record { is = λ s. rw (le-leb n farthest h) }
+-- a coordinate with a minus
+pub limited_none : (w : Found ℕ) → none ≡ limited pos w → none ≡ limited minus w
+limited_none none e = refl
+limited_none (found n t) e =
+    bool_or (leb n farthest) (λ near. let no : none ≡ found (pos n) t = rw near at e in cc) (λ far. rw far)
 
-  pub limited-plain : n ≤ farthest → IsLimited (Number.Found n next) false (Signed.Found (pos n) next)
-  limited-plain h = record { is = λ s. rw (le-leb n farthest h) }
+pub record Negated (z : ℤ) (t : Text) (w : Found ℕ) : Type 0 where
+  pub near : nat_abs z ≤ farthest
+  pub is : found (neg_ℤ z) t ≡ limited minus w
+
+pub negated : (z : ℤ) (t : Text) (w : Found ℕ) → found z t ≡ limited pos w → Negated z t w
+negated z t none e = cc
+negated z t (found n u) e =
+    bool_or (leb n farthest)
+    (λ near.
+    let same : found z t ≡ found (pos n) u = rw near at e in
+    let z-is : z ≡ pos n = cc in
+    let t-is : t ≡ u = cc in
+    rw (z-is, t-is) (record { near = leb-true n farthest near; is = rw near }))
+    (λ far. let no : found z t ≡ none = rw far at e in cc)

@@ -1,5 +1,5 @@
 -- The record of counts where the count of a dimension has changed.
-use mathlib.Core.Path.{◌≡◌, refl, ap, ◌∙◌}
+use mathlib.Core.Path.{◌≡◌, refl, sym, ap, ◌∙◌}
 use mathlib.Core.Bool.{cond}
 use mathlib.Core.List.{List, [], ◌∷◌}
 use Prim.Native.Nat.{ℕ, zero, suc, pred, ◌-◌, ◌≤◌}
@@ -8,6 +8,8 @@ use lib.Dec.{eqb}
 use lib.ListN.{length, set}
 use Rattle.rules.specs.declared.counts.Counts.{Counts}
 use Rattle.rules.specs.Counts.{count_of, shrunk_at}
+use Rattle.rules.specs.Complex.{Pattern, complex}
+use Rattle.rules.proofs.Storage.Stored.{count-is}
 
 -- the four counts, with v for that of dimension k
 abbrev pub counted : ℕ → ℕ → Counts → Counts
@@ -27,6 +29,10 @@ set_list (a ∷ b ∷ c ∷ d ∷ x ∷ l) k v e h = absurd (omega arith)
 
 minus_one : (n : ℕ) → n - 1 ≡ pred n
 minus_one n = omega arith
+
+-- the count of the faces of cells of dimension k
+pub count-below : (p : Pattern) (k : ℕ) → k ≤ 3 → count_of p.counts (k - 1) ≡ (complex p (pred k)).n
+count-below p k h = ap (count_of p.counts) (minus_one k) ∙ sym (count-is p (pred k) (omega arith))
 
 -- one cell fewer of dimension k
 abbrev pub fewer : ℕ → Counts → Counts

@@ -1,9 +1,11 @@
 -- When what a split chooses of a column can be split off, by the tests of the code.
-use mathlib.Core.Path.{◌≡◌, refl, sym, ap, ap₂, ◌∙◌, subst, fun_ext}
+use Rattle.std.specs.Prelude.{Some, None}
+use Rattle.std.specs.Bool.{then_some}
+use mathlib.Core.Path.{◌≡◌, refl, sym, ap, ap₂, ◌∙◌, fun_ext}
+use mathlib.Core.Logic.{◌≢◌}
 use mathlib.Core.Bool.{Bool, true, false, not, cond, ◌&&◌, ◌||◌, and-true, and-false}
 use mathlib.Core.List.{List}
-use Prim.Native.Nat.{ℕ, ◌<◌, ◌≤◌}
-use native.Mathlib.Omega.{arith}
+use Prim.Native.Nat.{ℕ, ◌<◌}
 use borrow.Author.Tests.{ne_eqb, not-true, not-false, eqb-true}
 use lib.Dec.{eqb}
 use lib.IntN.{ℤ, pos}
@@ -13,12 +15,10 @@ use Rattle.maths.proofs.Tests.{eq_z-refl, eq_z-true, zero_is, all-at, all_of, al
 use Rattle.rules.specs.Complex.{Chain}
 use Rattle.rules.specs.Edits.{part}
 use Rattle.rules.specs.Operators.{Faces, listed, chosen, is_part}
-use Rattle.rules.specs.Form.{chosen_of}
 use Rattle.rules.specs.Calls.{coefficients}
-use Rattle.grid.specs.Grid.{run}
-use Rattle.operators.specs.Part.{Numbers, Taken, numbers, head, part_of, all_there, is_true_part}
-use Rattle.operators.proofs.chosen.Lists.{holds, from_start}
-use Rattle.operators.proofs.chosen.Listing.{has_numbers}
+use lib.ListN.{length}
+use Rattle.operators.specs.Part.{head, part_of, part_taken, all_there, is_true_part}
+use Rattle.operators.proofs.chosen.Lists.{holds, of_96}
 
 module _ (F : Faces) where
   listed_at : (l : ℕ) → l < F.n → listed F (F.number l) ≡ true
@@ -87,44 +87,48 @@ module _ (p : ℕ → Bool) (v : Chain) where
       (all_same 96 (λ i h. ap (eq_z (v i)) (holds (part p v) e i h)))
 
   -- what the tests say of a part that was taken
-  taken-there : {r : Bool} {taken : List ℤ} → there p v ≡ true → taken ≡ part_of p v → r ≡ is_true_part (coefficients taken) v → Taken p v r taken
-  taken-there e t s = record { fine_is = s ∙ true-taken _ t ∙ true-part e; taken_is = t }
+  taken-there : {r : Bool} {taken : List ℤ} → there p v ≡ true → taken ≡ part_of p v → r ≡ is_true_part (coefficients taken) v
+      → then_some r taken ≡ part_taken p v
+  unfolding part_taken
+  taken-there e t s = rw (s ∙ true-taken _ t ∙ true-part e, t)
+      (by_bool (is_part p v) (λ b. then_some b (part_of p v) ≡ cond b (Some (part_of p v)) None) (λ _. refl) (λ _. refl))
 
-  taken_not : {taken : List ℤ} → there p v ≡ false → taken ≡ part_of p v → Taken p v false taken
-  taken_not e t = record { fine_is = no_part e; taken_is = t }
+  taken_not : there p v ≡ false → None ≡ part_taken p v
+  unfolding part_taken
+  taken_not e = rw (← no_part e)
 
 -- what is chosen of a seam, and of a panel or block
 chosen-head : {dim : ℕ} (F : Faces) (v : Chain) → dim ≡ 1 → head v ≡ chosen dim F v
 unfolding chosen
 chosen-head F v e = fun_ext (λ i. rw e)
 
-chosen-listed : (s : List ℕ) (dim list : ℕ) (v : Chain) → 2 ≤ dim → listed (numbers s list) ≡ chosen dim (chosen_of s dim list) v
+chosen-listed : {dim : ℕ} (F : Faces) (v : Chain) → dim ≢ 1 → listed F ≡ chosen dim F v
 unfolding chosen
-chosen-listed s dim list v h = fun_ext (λ i. rw (ne_eqb dim 1 (omega arith), has_numbers s dim list h))
+chosen-listed {dim} F v n = fun_ext (λ i. rw (ne_eqb dim 1 n))
 
-module _ (s : List ℕ) (dim list : ℕ) (v : Chain) {taken : List ℤ} where
-  pub head-taken : {r : Bool} → dim ≡ 1 → taken ≡ part_of (head v) v → r ≡ is_true_part (coefficients taken) v → Taken (chosen dim (chosen_of s dim list) v) v r taken
-  head-taken {r} d t e = subst (λ p. Taken p v r taken) (chosen-head _ v d) (taken-there (head v) v (head-there v) t e)
+module _ {dim : ℕ} (F : Faces) (v : Chain) where
+  pub head-taken : {taken : List ℤ} {r : Bool} → dim ≡ 1 → taken ≡ part_of (head v) v → r ≡ is_true_part (coefficients taken) v
+      → then_some r taken ≡ part_taken (chosen dim F v) v
+  head-taken d t e = rw (← chosen-head {dim = dim} F v d) (taken-there (head v) v (head-there v) t e)
 
-  module _ (n : Numbers s list) (d : 2 ≤ dim) (t : taken ≡ part_of (listed (numbers s list)) v) where
-    pub listed-taken : {r : Bool} → all_there (numbers s list) v ≡ true → r ≡ is_true_part (coefficients taken) v → Taken (chosen dim (chosen_of s dim list) v) v r taken
-    listed-taken {r} a e =
-        subst (λ p. Taken p v r taken) (chosen-listed s dim list v d) (taken-there (listed (numbers s list)) v (all-listed-there (numbers s list) v a) t e)
+  module _ (n : dim ≢ 1) where
+    pub listed-taken : {taken : List ℤ} {r : Bool} → taken ≡ part_of (listed F) v → all_there F v ≡ true → r ≡ is_true_part (coefficients taken) v
+        → then_some r taken ≡ part_taken (chosen dim F v) v
+    listed-taken t a e = rw (← chosen-listed {dim = dim} F v n) (taken-there (listed F) v (all-listed-there F v a) t e)
 
-    pub listed_missing : {r : Bool} → r ≡ all_there (numbers s list) v → r ≡ false → Taken (chosen dim (chosen_of s dim list) v) v r taken
-    listed_missing {r} a e =
-        rw e (subst (λ p. Taken p v false taken) (chosen-listed s dim list v d)
-        (taken_not (listed (numbers s list)) v (one_not-there (numbers s list) v n.low (sym a ∙ e)) t))
+    pub listed_missing : ((l : ℕ) → l < F.n → F.number l < 96) → all_there F v ≡ false → None ≡ part_taken (chosen dim F v) v
+    listed_missing low e = rw (← chosen-listed {dim = dim} F v n) (taken_not (listed F) v (one_not-there F v low e))
 
 -- the tests of `is_true_part` one by one
-module _ (w : List ℤ) (v : Chain) {a : Bool} (e : a ≡ all 96 (λ i. is_zero (run w 0 i))) where
+module _ (column w : List ℤ) (long : length w ≡ 96) {a : Bool} (e : a ≡ all (length w) (λ i. is_zero (coefficients w i))) where
   zeros : a ≡ all 96 (λ i. is_zero (coefficients w i))
-  zeros = from_start w (λ v. all 96 (λ i. is_zero (v i))) e
+  zeros = of_96 long (λ n. all n (λ i. is_zero (coefficients w i))) e
 
-  pub true-then : {b : Bool} → not a ≡ true → b ≡ all 96 (λ i. eq_z (v i) (coefficients w i)) → not b ≡ is_true_part (coefficients w) v
+  pub true-then : {b : Bool} → a ≡ false → b ≡ all 96 (λ i. eq_z (coefficients column i) (coefficients w i))
+      → not b ≡ is_true_part (coefficients w) (coefficients column)
   unfolding is_true_part
   true-then h f = rw (← zeros, h, ← f)
 
-  pub true_else : not a ≡ false → not a ≡ is_true_part (coefficients w) v
+  pub true_else : a ≡ true → not a ≡ is_true_part (coefficients w) (coefficients column)
   unfolding is_true_part
   true_else h = rw (← zeros, h)

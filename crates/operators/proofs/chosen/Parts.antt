@@ -1,28 +1,26 @@
 -- The listed faces of a column, marked one by one.
 use mathlib.Core.Path.{◌≡◌, refl, sym, ap, ◌∙◌}
 use mathlib.Core.Logic.{◌≢◌}
-use mathlib.Core.Bool.{true, false, not, ◌&&◌}
+use mathlib.Core.Bool.{true, false, not, cond, ◌&&◌}
 use mathlib.Core.List.{List}
-use Prim.Native.Nat.{ℕ, ◌+◌, ◌*◌, ◌<◌, ◌≤◌}
+use Prim.Native.Nat.{ℕ, ◌+◌, ◌<◌, ◌≤◌}
 use native.Mathlib.Numerals.{add-one}
 use native.Mathlib.Omega.{arith}
 use borrow.Author.Tests.{ne_eqb}
 use lib.IntN.{ℤ, pos}
+use mir.Syntax.{w8}
+use mir.Val.{to_z, bool_byte}
 use lib.ListN.{length, get_or, set, length-set}
 use lib.Seq.{get_or-set_same, get_or-set_other}
-use Rattle.maths.specs.Tests.{all}
-use Rattle.maths.specs.Tables.{column}
+use Rattle.maths.specs.Tests.{eq_z, all}
 use Rattle.maths.proofs.Cases.{eqb_same, eq_or, by_bool}
-use Rattle.maths.proofs.Tables.{entries_in, is-table}
+use Rattle.maths.proofs.Tables.{is-table}
+use Rattle.maths.proofs.Tests.{eq_z-true}
 use Rattle.grid.specs.Grid.{Blank}
 use Rattle.rules.specs.Complex.{Chain}
 use Rattle.rules.specs.Edits.{part}
 use Rattle.rules.specs.Operators.{Faces, listed}
-use Rattle.operators.specs.Part.{part_of}
-
--- an entry of a column by its place
-pub column_entry : (m : List ℤ) (cell i : ℕ) → i < 96 → cell < 96 → get_or m (96 * cell + i) (pos 0) ≡ column m cell i
-column_entry m cell i hi hj = sym (entries_in m i cell hi hj)
+use Rattle.operators.specs.Part.{head, part_of}
 
 -- the first l of the listed faces
 abbrev pub first : ℕ → Faces → Faces
@@ -64,3 +62,8 @@ module _ {F : Faces} {v : Chain} where
 
   pub mark_end : {l : ℕ} {taken : List ℤ} → Marked F v l taken → F.n ≤ l → taken ≡ part_of (listed F) v
   mark_end {l} m h = let e : l ≡ F.n = omega (arith, m.upto) in is-table (pos 0) m.size (λ i _. rw e at (m.is i))
+
+-- an entry of a head
+pub head_entry : (v : Chain) (i : ℕ) → to_z w8 (bool_byte (eq_z (v i) (pos 1))) ≡ part (head v) v i
+unfolding part
+head_entry v i = by_bool (eq_z (v i) (pos 1)) (λ t. to_z w8 (bool_byte t) ≡ cond t (v i) (pos 0)) (λ e. sym (eq_z-true e)) (λ _. refl)

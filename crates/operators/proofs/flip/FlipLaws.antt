@@ -10,7 +10,7 @@ use Rattle.rules.specs.Complex.{Pattern, complex, stored, pattern, Sized}
 use Rattle.rules.specs.Edits.{layers, at3, flip}
 use Rattle.rules.specs.Operators.{flip_step}
 use Rattle.operators.specs.Cells.{Cell}
-use Rattle.operators.proofs.Patterns.Patterns.{Absent, stored_is, same_counts, same1, same2, same3, Refuses, Leaves}
+use Rattle.operators.proofs.Patterns.Patterns.{Absent, stored_is, same_counts, same, Refuses, Leaves}
 use Rattle.operators.proofs.Patterns.Forms.{negated-column, negated-row}
 
 -- there is no such cell, or it is turned round
@@ -29,14 +29,14 @@ module _ {p : Pattern} (S : Sized p) (c : ℕ) where
       → pattern p.counts a b p.m3 ≡ stored (layers (flip 1 c (complex p)))
   unfolding flip at3
   flip1 ea eb =
-      stored_is (layers (flip 1 c (complex p))) (same_counts S) (ea ∙ negated-column c p.m1) (eb ∙ negated-row c p.m2) (same3 S)
+      stored_is (layers (flip 1 c (complex p))) (same_counts S) (ea ∙ negated-column c p.m1) (eb ∙ negated-row c p.m2) (same S 2)
 
   pub flip2 : {a b : List ℤ} → a ≡ over (negated_column c) p.m2 → b ≡ over (negated_row c) p.m3
       → pattern p.counts p.m1 a b ≡ stored (layers (flip 2 c (complex p)))
   unfolding flip at3
   flip2 ea eb =
-      stored_is (layers (flip 2 c (complex p))) (same_counts S) (same1 S) (ea ∙ negated-column c p.m2) (eb ∙ negated-row c p.m3)
+      stored_is (layers (flip 2 c (complex p))) (same_counts S) (same S 0) (ea ∙ negated-column c p.m2) (eb ∙ negated-row c p.m3)
 
   pub flip3 : {a : List ℤ} → a ≡ over (negated_column c) p.m3 → pattern p.counts p.m1 p.m2 a ≡ stored (layers (flip 3 c (complex p)))
   unfolding flip at3
-  flip3 ea = stored_is (layers (flip 3 c (complex p))) (same_counts S) (same1 S) (same2 S) (ea ∙ negated-column c p.m3)
+  flip3 ea = stored_is (layers (flip 3 c (complex p))) (same_counts S) (same S 0) (same S 1) (ea ∙ negated-column c p.m3)

@@ -2,20 +2,19 @@
 use mathlib.Core.Path.{◌≡◌, refl, sym, ap, ◌∙◌}
 use mathlib.Core.Bool.{Bool, true, false, not, cond, ◌&&◌, and-true}
 use mathlib.Core.List.{List, [], ◌∷◌}
-use Prim.Native.Nat.{ℕ, zero, suc, pred, ◌+◌, ◌<◌, ◌≤◌}
+use Prim.Native.Nat.{ℕ, zero, suc, pred, ◌<◌, ◌≤◌}
 use native.Mathlib.Numerals.{add-one}
 use native.Mathlib.Omega.{arith}
 use borrow.Author.Tests.{ne_eqb, lt-ltb, le-ltb}
 use lib.IntN.{ℤ, nat_abs}
 use lib.ListN.{length}
-use Rattle.maths.specs.Tables.{entries, tab}
-use Rattle.maths.proofs.Tables.{tab-entries}
+use Rattle.maths.specs.Tables.{entries}
 use Rattle.maths.proofs.Cases.{by_bool, bool_or, no_eq}
 use Rattle.maths.proofs.Tests.{all_of, zero_is}
 use Rattle.maths.proofs.Dots.{dot_0_l}
 use Rattle.grid.specs.Grid.{Summands, over, with_column}
 use Rattle.rules.specs.declared.counts.Counts.{Counts}
-use Rattle.rules.specs.declared.answers.Applied.{Applied}
+use Rattle.rules.specs.Answers.{Applied}
 use Rattle.rules.specs.Counts.{count_of, grown_at}
 use Rattle.rules.specs.Refusals.{accepted, no_such_cell, no_room, not_closed}
 use Rattle.rules.specs.Complex.{Pattern, Chain, bare, complex, counts_of, pattern, layer, Sized}
@@ -24,7 +23,8 @@ use Rattle.rules.specs.Edits.{layers, at3, put, make}
 use Rattle.rules.specs.Operators.{Faces, chain_of, all_below, closed, make_step}
 use Rattle.rules.specs.Calls.{Lent, lent, coefficients, applied}
 use Rattle.rules.proofs.Layers.Judged.{closes-rows}
-use Rattle.operators.specs.Append.{tried, set_if, appended, Storable, Closable, Appendable}
+use Rattle.operators.proofs.Patterns.Patterns.{same}
+use Rattle.operators.specs.Append.{tried, set_if, appended, Closable, Appendable}
 
 -- the counts: one more at dimension k
 grown_are : (v : Chain) (m1 m2 m3 : List ℤ) (l : List ℕ) → length l ≡ 4 → (k : ℕ) → k ≤ 3
@@ -65,20 +65,10 @@ module _ (p : Pattern) (H : Held p) (column : List ℤ) where
   abbrev v : Chain
   v = coefficients column
 
-  -- matrices that are not touched
-  same1 : p.m1 ≡ tab (entries p.m1)
-  same1 = sym (tab-entries p.m1 H.sized.size1)
-
-  same2 : p.m2 ≡ tab (entries p.m2)
-  same2 = sym (tab-entries p.m2 H.sized.size2)
-
-  same3 : p.m3 ≡ tab (entries p.m3)
-  same3 = sym (tab-entries p.m3 H.sized.size3)
-
   -- by the dimension: which test a column has to pass, and which matrix has it then
   pub append_0 : {k : ℕ} → k ≡ 0 → lent true p ≡ appended k v p
   unfolding appended closed make at3
-  append_0 e = rw (e, ← same1, ← same2, ← same3)
+  append_0 e = rw (e, ← same H.sized 0, ← same H.sized 1, ← same H.sized 2)
 
   closed_1 : closed 1 v (complex p) ≡ not (all_zero v)
   unfolding closed
@@ -87,7 +77,7 @@ module _ (p : Pattern) (H : Held p) (column : List ℤ) where
   pub append_1 : {k : ℕ} {done : Bool} {m : List ℤ} → k ≡ 1 → tried done m ≡ set_if (not (all_zero v)) (count p 1) column p.m1
       → lent done (pattern p.counts m p.m2 p.m3) ≡ appended k v p
   unfolding appended make at3 over with_column put
-  append_1 e q = rw (e, closed_1) (placed _ _ _ (λ m. pattern p.counts m p.m2 p.m3) q (rw (← same2, ← same3)) refl)
+  append_1 e q = rw (e, closed_1) (placed _ _ _ (λ m. pattern p.counts m p.m2 p.m3) q (rw (← same H.sized 1, ← same H.sized 2)) refl)
 
   -- past the rows in use every boundary is 0
   closed-next : (k : ℕ) → closed (suc (suc k)) v (complex p) ≡ not (all_zero v) && closes 96 (complex p (suc k)) v
@@ -98,22 +88,19 @@ module _ (p : Pattern) (H : Held p) (column : List ℤ) where
       → tried done m ≡ set_if (not (all_zero v) && closes 96 (layer (count p 1) p.m1) v) (count p 2) column p.m2
       → lent done (pattern p.counts p.m1 m p.m3) ≡ appended k v p
   unfolding appended make at3 over with_column put
-  append_2 e q = rw (e, closed-next 0) (placed _ _ _ (λ m. pattern p.counts p.m1 m p.m3) q (rw (← same1, ← same3)) refl)
+  append_2 e q = rw (e, closed-next 0) (placed _ _ _ (λ m. pattern p.counts p.m1 m p.m3) q (rw (← same H.sized 0, ← same H.sized 2)) refl)
 
   pub append_3 : {k : ℕ} {done : Bool} {m : List ℤ} → k ≡ 3
       → tried done m ≡ set_if (not (all_zero v) && closes 96 (layer (count p 2) p.m2) v) (count p 3) column p.m3
       → lent done (pattern p.counts p.m1 p.m2 m) ≡ appended k v p
   unfolding appended make at3 over with_column put
-  append_3 e q = rw (e, closed-next 1) (placed _ _ _ (λ m. pattern p.counts p.m1 p.m2 m) q (rw (← same1, ← same2)) refl)
+  append_3 e q = rw (e, closed-next 1) (placed _ _ _ (λ m. pattern p.counts p.m1 p.m2 m) q (rw (← same H.sized 0, ← same H.sized 1)) refl)
 
 -- what the tests of each dimension need
 module _ {k : ℕ} {column : List ℤ} {p : Pattern} (A : Appendable k column p) where
-  pub seam_fits : k ≡ 1 → Storable column p.m1 (count p 1)
-  seam_fits e = record { size = A.size; line = record { size = A.held.sized.size1; inside = rw e at A.room } }
-
-  chain_of_lem : {low : List ℤ} {n : ℕ} → length low ≡ 9216 → n ≤ 96 → ((i j : ℕ) → nat_abs (entries low i j) ≤ 1) → Summands low n column 0
+  chain_of_lem : {low : List ℤ} {n : ℕ} → length low ≡ 9216 → n ≤ 96 → ((i j : ℕ) → nat_abs (entries low i j) ≤ 1) → Summands low n column
   chain_of_lem l few unit =
-      record { size = l; few = few; inside = omega (arith, A.size); units = record { unit = unit }; small = λ j h. A.unit (0 + j) }
+      record { size = l; few = few; inside = omega (arith, A.size); units = record { unit = unit }; small = λ j h. A.unit j }
 
   pub panel_fits : k ≡ 2 → Closable p.m1 (count p 1) column p.m2 (count p 2)
   panel_fits e = record {

@@ -1,4 +1,5 @@
 -- The row of a cell, and how many faces two columns share: the two cells that it lies between, or the refusal.
+use Rattle.std.specs.Prelude.{Ok, Err}
 use mathlib.Core.Path.{◌≡◌, refl, sym, ◌∙◌, ap}
 use mathlib.Core.Logic.{◌≢◌}
 use mathlib.Core.Bool.{Bool, true, false, not, cond, ◌||◌}
@@ -11,13 +12,12 @@ use Rattle.maths.specs.Tests.{eq_z, is_zero, all, count, last}
 use Rattle.maths.specs.Tables.{Entries}
 use Rattle.maths.proofs.Cases.{eq_or, by_bool, lt_or, no_eq}
 use Rattle.maths.proofs.Tests.{eq_z-true, zero-false, not-zero, all-at, all-false, count_one, one_found, last_le, last_passes, last-most}
-use Rattle.rules.specs.Refusals.{not_between, shared_face}
+use Rattle.rules.specs.declared.refusals.Refusal.{Refusal}
 use Rattle.rules.specs.Complex.{Chain}
 use Rattle.rules.specs.Good.{one_each}
 use Rattle.rules.specs.Operators.{share_only, lower, higher}
 use Rattle.rules.proofs.Layers.Judged.{one_each_true}
-use Rattle.operators.specs.Joins.{column_of, both, shared_by, sides_of}
-use Rattle.operators.specs.declared.merge.Sides.{Sides}
+use Rattle.operators.specs.Joins.{Sides, column_of, both, shared_by, sides_of}
 
 -- a is below b, and both are numbers of cells that the row v meets
 pub record Pair (v : Chain) (a b : ℕ) : Type 0 where
@@ -53,22 +53,22 @@ two_met v e =
     }
 
 -- cells are answered only where both tests hold
-no_cells : {a b r : ℕ} → Sides.Cells a b ≢ Sides.Refused r
+no_cells : {a b : ℕ} {r : Refusal} → ◌≢◌ {A = Sides} (Ok (a, b)) (Err r)
 no_cells e = let z : ◌≡◌ {A = ℕ} 0 1 = cc in omega arith
 
 sides_are : (x y : Bool) (l h : ℕ) {a b : ℕ}
-    → Sides.Cells a b ≡ cond x (cond y (Sides.Cells l h) (Sides.Refused shared_face)) (Sides.Refused not_between)
+    → ◌≡◌ {A = Sides} (Ok (a, b)) (cond x (cond y (Ok (l, h)) (Err Refusal.SharedFace)) (Err Refusal.NotBetween))
     → (x ≡ true) × (l ≡ a) × (h ≡ b)
-sides_are true true l h e = (refl, cc, cc)
+sides_are true true l h {a} {b} e = let p : ◌≡◌ {A = ℕ × ℕ} (l, h) (a, b) = cc e in (refl, ap (λ x. x.0) p, ap (λ x. x.1) p)
 sides_are true false l h e = absurd (no_cells e)
 sides_are false y l h e = absurd (no_cells e)
 
 -- the two cells that are answered are the two places of the row
-pub cells_met : (f : Entries) (t : ℕ) {a b : ℕ} → Sides.Cells a b ≡ sides_of f t → Pair (λ j. f t j) a b
+pub cells_met : (f : Entries) (t : ℕ) {a b : ℕ} → sides_of f t ≡ Ok (a, b) → Pair (λ j. f t j) a b
 unfolding sides_of
 cells_met f t e =
     let v : Chain = λ j. f t j in
-    let s = sides_are (one_each v) (share_only t (column_of f (lower v)) (column_of f (higher v))) (lower v) (higher v) e in
+    let s = sides_are (one_each v) (share_only t (column_of f (lower v)) (column_of f (higher v))) (lower v) (higher v) (sym e) in
     rw (s.1, s.2) at (two_met v s.0)
 
 -- how many faces two columns share, where t is one
@@ -120,7 +120,7 @@ module _ {f : Entries} {t a b : ℕ} (P : Places f t a b) where
   pub first-low : a < 96
   first-low = let first : a ≤ b = rw P.first-is (last_le b (λ j. not (is_zero (f t j)))) in omega (arith, second-low)
 
-  pub not_between_lem : one_each (λ j. f t j) ≡ false → Sides.Refused not_between ≡ sides_of f t
+  pub not_between_lem : one_each (λ j. f t j) ≡ false → Err Refusal.NotBetween ≡ sides_of f t
   unfolding sides_of
   not_between_lem o = rw o
 
@@ -130,10 +130,10 @@ module _ {f : Entries} {t a b : ℕ} (P : Places f t a b) where
         let m : Pair (λ j. f t j) a b = rw (P.first-is, P.last-is) (two_met (λ j. f t j) o) in
         sym (rw e (shared_one f t a b low m.met_low m.met))
 
-    pub shared_face_lem : eqb n 1 ≡ false → Sides.Refused shared_face ≡ sides_of f t
+    pub shared_face_lem : eqb n 1 ≡ false → Err Refusal.SharedFace ≡ sides_of f t
     unfolding sides_of
     shared_face_lem q = rw (o, ← P.last-is, ← P.first-is, counted, q)
 
-    pub sides-found : eqb n 1 ≡ true → Sides.Cells a b ≡ sides_of f t
+    pub sides-found : eqb n 1 ≡ true → ◌≡◌ {A = Sides} (Ok (a, b)) (sides_of f t)
     unfolding sides_of
     sides-found q = rw (o, ← P.last-is, ← P.first-is, counted, q)

@@ -13,11 +13,10 @@ use Rattle.rules.specs.Counts.{count_of}
 use Rattle.rules.specs.Complex.{Pattern, complex, pattern, Sized}
 use Rattle.rules.specs.Edits.{Step, layers, at3, boundary, part, halves, repeated, split}
 use Rattle.rules.specs.Operators.{Faces, chosen, is_part, divides, edited, unless}
-use Rattle.rules.specs.Form.{chosen_of}
 use Rattle.rules.specs.Calls.{Lent, lent}
-use Rattle.rules.specs.Good.{Held}
 use Rattle.operators.specs.Split.{Fine, Splittable, Prepared, Around, around, divided, part_step, leaves}
 use Rattle.operators.specs.Boundary.{edge}
+use Rattle.operators.proofs.Patterns.Patterns.{fine}
 
 -- two tests, each way told
 each_way : (p : Pattern) (f : Around → Lent ℕ) (a b : Bool) (x y z : Around) (S : ℕ → Step)
@@ -29,7 +28,7 @@ each_way p f false b x y z S e g h = h
 
 module _ {p : Pattern} (Z : Sized p) (cell : ℕ) (F : Faces) {r : ℕ} {low mid high : List ℤ} where
   -- seams: corners have no matrix, and that of the blocks stays
-  split1 : around r low mid high
+  pub split1 : around r low mid high
       ≡ divided 1 cell (count_of p.counts 0) (count_of p.counts 1) (chosen 1 F (column p.m1 cell)) [] p.m1 p.m2
       → lent r (pattern p.counts mid high p.m3) ≡ leaves p (part_step 1 cell F (complex p))
   unfolding divided part_step divides split at3 halves repeated
@@ -43,7 +42,7 @@ module _ {p : Pattern} (Z : Sized p) (cell : ℕ) (F : Faces) {r : ℕ} {low mid
       refl refl
 
   -- panels
-  split2 : around r low mid high
+  pub split2 : around r low mid high
       ≡ divided 2 cell (count_of p.counts 1) (count_of p.counts 2) (chosen 2 F (column p.m2 cell)) p.m1 p.m2 p.m3
       → lent r (pattern p.counts low mid high) ≡ leaves p (part_step 2 cell F (complex p))
   unfolding divided part_step boundary split at3 halves repeated
@@ -54,7 +53,7 @@ module _ {p : Pattern} (Z : Sized p) (cell : ℕ) (F : Faces) {r : ℕ} {low mid
       ap f e ∙ each_way p f (is_part c v) (divides 1 (edge p.m1 (part c v))) _ _ _ (split 1 cell c (complex p)) refl refl refl
 
   -- blocks: nothing is above them, and the matrix of the seams stays
-  split3 : around r low mid high
+  pub split3 : around r low mid high
       ≡ divided 3 cell (count_of p.counts 2) (count_of p.counts 3) (chosen 3 F (column p.m3 cell)) p.m2 p.m3 []
       → lent r (pattern p.counts p.m1 low mid) ≡ leaves p (part_step 3 cell F (complex p))
   unfolding divided part_step boundary split at3 halves
@@ -67,39 +66,9 @@ module _ {p : Pattern} (Z : Sized p) (cell : ℕ) (F : Faces) {r : ℕ} {low mid
       (ap (λ m. lent accepted (pattern p.counts m (tab (layers S 2).d) (tab (layers S 3).d))) (sym (tab-entries p.m1 Z.size1)))
       refl refl
 
--- the same where the dimension is known to be 1, 2 or 3
-module _ {p : Pattern} (Z : Sized p) (s : List ℕ) (cell list : ℕ) {dim r : ℕ} {low mid high : List ℤ} where
-  pub seam_split : dim ≡ 1
-      → around r low mid high
-      ≡ divided dim cell (count_of p.counts (dim - 1)) (count_of p.counts dim) (chosen dim (chosen_of s dim list) (column p.m1 cell)) [] p.m1 p.m2
-      → lent r (pattern p.counts mid high p.m3) ≡ leaves p (part_step dim cell (chosen_of s dim list) (complex p))
-  seam_split d e = rw d (split1 Z cell (chosen_of s 1 list) (rw d at e))
-
-  pub panel-split : dim ≡ 2
-      → around r low mid high
-      ≡ divided dim cell (count_of p.counts (dim - 1)) (count_of p.counts dim) (chosen dim (chosen_of s dim list) (column p.m2 cell)) p.m1 p.m2 p.m3
-      → lent r (pattern p.counts low mid high) ≡ leaves p (part_step dim cell (chosen_of s dim list) (complex p))
-  panel-split d e = rw d (split2 Z cell (chosen_of s 2 list) (rw d at e))
-
-  pub block_split : dim ≡ 3
-      → around r low mid high
-      ≡ divided dim cell (count_of p.counts (dim - 1)) (count_of p.counts dim) (chosen dim (chosen_of s dim list) (column p.m3 cell)) p.m2 p.m3 []
-      → lent r (pattern p.counts p.m1 low mid) ≡ leaves p (part_step dim cell (chosen_of s dim list) (complex p))
-  block_split d e = rw d (split3 Z cell (chosen_of s 3 list) (rw d at e))
-
--- the matrices of a good pattern, and what a split needs of three neighbours
-module _ {p : Pattern} where
-  fine1 : Held p → Fine p.m1
-  fine1 H = record { size = H.sized.size1; units = record { unit = H.good.units 1 } }
-
-  fine2 : Held p → Fine p.m2
-  fine2 H = record { size = H.sized.size2; units = record { unit = H.good.units 2 } }
-
-  fine3 : Held p → Fine p.m3
-  fine3 H = record { size = H.sized.size3; units = record { unit = H.good.units 3 } }
-
-module _ {p : Pattern} {s : List ℕ} {cell list : ℕ} where
-  splittable : (m : ℕ) {low mid high : List ℤ} → Prepared p s (suc m) cell list → Fine mid → (complex p (suc m)).d ≡ entries mid
+-- what a split needs of three neighbours
+module _ {p : Pattern} {faces : List ℕ} {cell : ℕ} where
+  splittable : (m : ℕ) {low mid high : List ℤ} → Prepared p faces (suc m) cell → Fine mid → (complex p (suc m)).d ≡ entries mid
       → (2 ≤ suc m → Fine low) → (suc m ≤ 2 → length high ≡ 9216) → Splittable (suc m) cell (complex p m).n (complex p (suc m)).n low mid high
   splittable m P f e b a = record {
     least = omega arith;
@@ -113,12 +82,12 @@ module _ {p : Pattern} {s : List ℕ} {cell list : ℕ} where
     above = a;
   }
 
-  module _ {dim : ℕ} (P : Prepared p s dim cell list) where
+  module _ {dim : ℕ} (P : Prepared p faces dim cell) where
     pub seam_needs : dim ≡ 1 → Splittable dim cell (count_of p.counts (dim - 1)) (count_of p.counts dim) [] p.m1 p.m2
-    seam_needs d = rw d (splittable 0 (rw d at P) (fine1 P.held) refl (λ h. absurd (omega arith)) (λ _. P.held.sized.size2))
+    seam_needs d = rw d (splittable 0 (rw d at P) (fine P.held 0) refl (λ h. absurd (omega arith)) (λ _. P.held.sized.size2))
 
     pub panel_needs : dim ≡ 2 → Splittable dim cell (count_of p.counts (dim - 1)) (count_of p.counts dim) p.m1 p.m2 p.m3
-    panel_needs d = rw d (splittable 1 (rw d at P) (fine2 P.held) refl (λ _. fine1 P.held) (λ _. P.held.sized.size3))
+    panel_needs d = rw d (splittable 1 (rw d at P) (fine P.held 1) refl (λ _. fine P.held 0) (λ _. P.held.sized.size3))
 
     pub block_needs : dim ≡ 3 → Splittable dim cell (count_of p.counts (dim - 1)) (count_of p.counts dim) p.m2 p.m3 []
-    block_needs d = rw d (splittable 2 (rw d at P) (fine3 P.held) refl (λ _. fine2 P.held) (λ h. absurd (omega arith)))
+    block_needs d = rw d (splittable 2 (rw d at P) (fine P.held 2) refl (λ _. fine P.held 1) (λ h. absurd (omega arith)))

@@ -1,18 +1,17 @@
 -- What holds of every way on holds of an answer: one law for each branching of the definitions. And outcomes of different kinds differ.
+use Rattle.std.specs.Prelude.{Ok, Err}
 use mathlib.Core.Path.{◌≡◌, refl}
 use mathlib.Core.Logic.{◌≢◌}
 use mathlib.Core.Bool.{Bool, true, false, cond}
 use Prim.Native.Nat.{ℕ}
 use native.Mathlib.Omega.{arith}
 use Rattle.rules.specs.declared.form.Fault.{Fault}
-use Rattle.rules.specs.declared.form.Field.{Field}
-use Rattle.rules.specs.declared.form.OperatorForm.{OperatorForm}
 use Rattle.rules.specs.declared.operator.Operator.{Operator}
 use Rattle.rules.specs.Refusals.{not_carried, no_place}
 use Rattle.rules.specs.Complex.{Complex}
 use Rattle.rules.specs.Edits.{Step, layers}
 use Rattle.rules.specs.Operators.{Outcome, refused, edited, removed, after_step}
-use Rattle.rules.specs.Form.{fault_number, fault_place, after, after_operator}
+use Rattle.rules.specs.Form.{fault_number, fault_place, after, after_operator, Field, OperatorForm}
 use Rattle.rules.specs.Mesh as mesh
 use Rattle.rules.specs.Chains.{after_carry}
 
@@ -21,14 +20,14 @@ module _ {A : Type 0} (P : A → Type 0) where
   cond_each true f g = f refl
   cond_each false f g = g refl
 
-  pub after_each : {bad : Fault → A} {go : ℕ → A} (f : Field) → ((g : Fault) → P (bad g)) → ((x : ℕ) → f ≡ Field.Got x → P (go x)) → P (after f bad go)
-  after_each (Field.Got x) h k = k x refl
-  after_each (Field.Bad g) h k = h g
+  pub after_each : {bad : Fault → A} {go : ℕ → A} (f : Field) → ((g : Fault) → P (bad g)) → ((x : ℕ) → f ≡ Ok x → P (go x)) → P (after f bad go)
+  after_each (Ok x) h k = k x refl
+  after_each (Err g) h k = h g
 
   pub operator_each : {bad : Fault → A} {go : Operator → ℕ → A} (f : OperatorForm) → ((g : Fault) → P (bad g)) →
-      ((o : Operator) (next : ℕ) → f ≡ OperatorForm.Decoded o next → P (go o next)) → P (after_operator f bad go)
-  operator_each (OperatorForm.Decoded o next) h k = k o next refl
-  operator_each (OperatorForm.Bad g) h k = h g
+      ((o : Operator) (next : ℕ) → f ≡ Ok (o, next) → P (go o next)) → P (after_operator f bad go)
+  operator_each (Ok (o, next)) h k = k o next refl
+  operator_each (Err g) h k = h g
 
   pub step_each : {bad : ℕ → A} {go : Complex → A} (o : Outcome) → ((r : ℕ) → o ≡ refused r → P (bad r)) →
       ((S : ℕ → Step) → o ≡ edited S → P (go (layers S))) → ((Y : Complex) → o ≡ removed Y → P (go Y)) → P (after_step o bad go)

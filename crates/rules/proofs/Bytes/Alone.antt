@@ -1,4 +1,5 @@
 -- An operator of a script, cut out of the script's bytes, is read as the same operator.
+use Rattle.std.specs.Prelude.{Ok}
 use mathlib.Core.Path.{◌≡◌, sym, ap, ◌∙◌}
 use mathlib.Core.List.{List}
 use Prim.Native.Nat.{ℕ, ◌+◌, ◌-◌, ◌<◌, ◌≤◌}
@@ -6,7 +7,6 @@ use native.Mathlib.Omega.{arith}
 use borrow.Author.Tests.{le-ltb}
 use lib.ListN.{length, get_or, take, drop, length-drop}
 use lib.Seq.{get_or-take, get_or-drop, length-take-le}
-use Rattle.rules.specs.declared.form.OperatorForm.{OperatorForm}
 use Rattle.rules.specs.declared.operator.Operator.{Operator}
 use Rattle.rules.specs.Complex.{Complex}
 use Rattle.rules.specs.Operators.{amount_of, step}
@@ -23,7 +23,7 @@ bytes_from s at next = take (next - at) (drop at s)
 -- the operator o, which stands in s from `at` up to `next`, as it is read from its own bytes alone
 pub record Alone (s : List ℕ) (at : ℕ) (o : Operator) (next : ℕ) : Type 0 where
   pub own : Operator
-  pub form : lone_operator (bytes_from s at next) ≡ OperatorForm.Decoded own (next - at)
+  pub form : lone_operator (bytes_from s at next) ≡ Ok (own, next - at)
   pub steps : (X : Complex) → step own (faces_of (bytes_from s at next) own) X ≡ step o (faces_of s o) X
   pub carries : (X : Complex) → carry_step own (faces_of (bytes_from s at next) own) X ≡ carry_step o (faces_of s o) X
   pub amount : amount_of own ≡ amount_of o
@@ -37,7 +37,7 @@ module _ (s : List ℕ) (at next : ℕ) (h : next ≤ length s) where
   bytes_copied p q e l =
       get_or-take (next - at) (drop at s) q 0 (omega (arith, bytes-length)) ∙ get_or-drop at s q 0 ∙ ap (λ i. get_or s i 0) (sym e)
 
-pub alone : (s : List ℕ) (at : ℕ) {o : Operator} {next : ℕ} → operator_at s at ≡ OperatorForm.Decoded o next → Alone s at o next
+pub alone : (s : List ℕ) (at : ℕ) {o : Operator} {next : ℕ} → operator_at s at ≡ Ok (o, next) → Alone s at o next
 unfolding lone_operator
 alone s at {o} {next} e =
     let d = decoded s at e in

@@ -1,4 +1,5 @@
 -- Where a fault of the form lies: 3 at the end of the bytes, 4 and 14 at one of them; and not far behind the place where the reading began.
+use Rattle.std.specs.Prelude.{Option, Some, Ok, Err, None}
 use mathlib.Core.Path.{◌≡◌, refl, sym, ◌∙◌}
 use mathlib.Core.Bool.{Bool, true, false}
 use mathlib.Core.List.{List}
@@ -10,13 +11,10 @@ use lib.ListN.{length, get_or}
 use Rattle.maths.specs.Repeat.{repeat}
 use Rattle.maths.proofs.Cases.{no_eq, and_left, and_right}
 use Rattle.rules.specs.declared.form.Fault.{Fault}
-use Rattle.rules.specs.declared.form.Field.{Field}
 use Rattle.rules.specs.declared.form.Code.{Code}
-use Rattle.rules.specs.declared.form.EntryForm.{EntryForm}
-use Rattle.rules.specs.declared.form.OperatorForm.{OperatorForm}
 use Rattle.rules.specs.declared.operator.Operator.{Operator}
 use Rattle.rules.specs.Refusals.{bytes_end, wrong_form, bytes_left, no_place}
-use Rattle.rules.specs.Form.{fault_number, fault_place, is_fault, within, byte_at, word_at, after, after_entry, after_operator, code_of, entry_at, entries_at, list_at, make_at, split_at, cell_at, operands_at, operator_at, lone_operator, counts_at, operators_at, script_form}
+use Rattle.rules.specs.Form.{fault_number, fault_place, is_fault, within, byte_at, word_at, after, after_entry, after_operator, code_of, entry_at, entries_at, list_at, make_at, split_at, cell_at, operands_at, operator_at, lone_operator, counts_at, operators_at, script_form, Field, EntryForm, OperatorForm}
 use Rattle.rules.proofs.Branches.Branches.{cond_each}
 use Rattle.rules.proofs.Bytes.Fields.{Byte, bad_field, bad_operator}
 
@@ -63,49 +61,49 @@ here L = record { located = L.located; inside = L.inside; near = L.inside }
 
 -- what was read has the property Q, or a fault lies there; of a field, an entry and an operator
 abbrev pub FieldOr : List ℕ → ℕ → (ℕ → Type 0) → Field → Type 0
-FieldOr s most Q (Field.Got x) = Q x
-FieldOr s most Q (Field.Bad f) = Lies s most f
+FieldOr s most Q (Ok x) = Q x
+FieldOr s most Q (Err f) = Lies s most f
 
 abbrev EntryOr : List ℕ → ℕ → EntryForm → Type 0
-EntryOr s most (EntryForm.Entry low next) = next ≤ most
-EntryOr s most (EntryForm.Bad f) = Lies s most f
+EntryOr s most (Ok (low, next)) = next ≤ most
+EntryOr s most (Err f) = Lies s most f
 
 abbrev pub OperatorOr : List ℕ → ℕ → OperatorForm → Type 0
-OperatorOr s most (OperatorForm.Decoded o next) = next ≤ most
-OperatorOr s most (OperatorForm.Bad f) = Lies s most f
+OperatorOr s most (Ok (o, next)) = next ≤ most
+OperatorOr s most (Err f) = Lies s most f
 
 reached : (s : List ℕ) {near far : ℕ} (f : Field) → near ≤ far → FieldOr s near (λ x. Unit {0}) f → FieldOr s far (λ x. Unit {0}) f
-reached s (Field.Got x) h q = tt
-reached s (Field.Bad f) h L = further h L
+reached s (Ok x) h q = tt
+reached s (Err f) h L = further h L
 
 onward : (s : List ℕ) {near far : ℕ} (f : OperatorForm) → near ≤ far → OperatorOr s near f → OperatorOr s far f
-onward s (OperatorForm.Decoded o next) h l = omega arith
-onward s (OperatorForm.Bad f) h L = further h L
+onward s (Ok (o, next)) h l = omega arith
+onward s (Err f) h L = further h L
 
 -- the fault of a field, and of an operator
-pub field_fault : (s : List ℕ) {most : ℕ} {g : Fault} (f : Field) → FieldOr s most (λ x. Unit {0}) f → f ≡ Field.Bad g → Lies s most g
-field_fault s {g = g} (Field.Got x) q e = absurd (bad_field g (sym e))
-field_fault s {g = g} (Field.Bad f) L e = let q : f ≡ g = cc e in rw q at L
+pub field_fault : (s : List ℕ) {most : ℕ} {g : Fault} (f : Field) → FieldOr s most (λ x. Unit {0}) f → f ≡ Err g → Lies s most g
+field_fault s {g = g} (Ok x) q e = absurd (bad_field g (sym e))
+field_fault s {g = g} (Err f) L e = let q : f ≡ g = cc e in rw q at L
 
-pub operator_fault : (s : List ℕ) {most : ℕ} {g : Fault} (f : OperatorForm) → OperatorOr s most f → f ≡ OperatorForm.Bad g → Lies s most g
-operator_fault s {g = g} (OperatorForm.Decoded o next) l e = absurd (bad_operator g (sym e))
-operator_fault s {g = g} (OperatorForm.Bad f) L e = let q : f ≡ g = cc e in rw q at L
+pub operator_fault : (s : List ℕ) {most : ℕ} {g : Fault} (f : OperatorForm) → OperatorOr s most f → f ≡ Err g → Lies s most g
+operator_fault s {g = g} (Ok (o, next)) l e = absurd (bad_operator g (sym e))
+operator_fault s {g = g} (Err f) L e = let q : f ≡ g = cc e in rw q at L
 
 module _ {A : Type 0} (P : A → Type 0) {s : List ℕ} {most : ℕ} where
   pub field_or : {Q : ℕ → Type 0} {bad : Fault → A} {go : ℕ → A} (f : Field) → FieldOr s most Q f → ((g : Fault) → Lies s most g → P (bad g)) →
       ((x : ℕ) → Q x → P (go x)) → P (after f bad go)
-  field_or (Field.Got x) h bad go = go x h
-  field_or (Field.Bad g) h bad go = bad g h
+  field_or (Ok x) h bad go = go x h
+  field_or (Err g) h bad go = bad g h
 
   entry_or : {bad : Fault → A} {go : ℕ → ℕ → A} (f : EntryForm) → EntryOr s most f → ((g : Fault) → Lies s most g → P (bad g)) →
       ((low next : ℕ) → next ≤ most → P (go low next)) → P (after_entry f bad go)
-  entry_or (EntryForm.Entry low next) h bad go = go low next h
-  entry_or (EntryForm.Bad g) h bad go = bad g h
+  entry_or (Ok (low, next)) h bad go = go low next h
+  entry_or (Err g) h bad go = bad g h
 
   pub operator_or : {bad : Fault → A} {go : Operator → ℕ → A} (f : OperatorForm) → OperatorOr s most f → ((g : Fault) → Lies s most g → P (bad g)) →
-      ((o : Operator) (next : ℕ) → f ≡ OperatorForm.Decoded o next → next ≤ most → P (go o next)) → P (after_operator f bad go)
-  operator_or (OperatorForm.Decoded o next) h bad go = go o next refl h
-  operator_or (OperatorForm.Bad g) h bad go = bad g h
+      ((o : Operator) (next : ℕ) → f ≡ Ok (o, next) → next ≤ most → P (go o next)) → P (after_operator f bad go)
+  operator_or (Ok (o, next)) h bad go = go o next refl h
+  operator_or (Err g) h bad go = bad g h
 
 module _ (s : List ℕ) where
   pub byte_lies : (at low high : ℕ) → FieldOr s at (Byte s at low high) (byte_at s at low high)
@@ -138,7 +136,7 @@ module _ (s : List ℕ) where
 
   -- entries of two bytes at most
   entries-lie : (signed : Bool) (most n at low : ℕ) → at + 2 * n ≤ most → FieldOr s most (λ next. next ≤ most)
-      (repeat {S = ℕ × ℕ} (λ x go. after_entry (entry_at signed s x.0 x.1) Field.Bad λ low next. go (next, low)) (λ x. Field.Got x.0) n (at, low))
+      (repeat {S = ℕ × ℕ} (λ x go. after_entry (entry_at signed s x.0 x.1) Err λ low next. go (next, low)) (λ x. Ok x.0) n (at, low))
   unfolding repeat
   entries-lie signed most zero at low h = omega arith
   entries-lie signed most (suc n) at low h =
@@ -174,13 +172,13 @@ module _ (s : List ℕ) where
   unfolding cell_at
   cell_lies o at = field_or (OperatorOr s (at + 194)) (byte_at s at 0 255) (byte_lies at 0 255) (λ g. further (omega arith)) (λ c _. omega arith)
 
-  operands_lie : (at : ℕ) → at < length s → (c : Code) → OperatorOr s (at + 195) (operands_at s at c)
-  operands_lie at h (Code.Make k) = onward s (make_at s k (at + 1)) (omega arith) (make_lies k (at + 1))
-  operands_lie at h (Code.Kill k) = onward s (cell_at s (Operator.Kill k) (at + 1)) (omega arith) (cell_lies (Operator.Kill k) (at + 1))
-  operands_lie at h (Code.Split k) = onward s (split_at s k (at + 1)) (omega arith) (split_lies k (at + 1))
-  operands_lie at h (Code.Merge k) = onward s (cell_at s (Operator.Merge k) (at + 1)) (omega arith) (cell_lies (Operator.Merge k) (at + 1))
-  operands_lie at h (Code.Flip k) = onward s (cell_at s (Operator.Flip k) (at + 1)) (omega arith) (cell_lies (Operator.Flip k) (at + 1))
-  operands_lie at h Code.Unknown = wrong_lies h (omega arith)
+  operands_lie : (at : ℕ) → at < length s → (c : Option Code) → OperatorOr s (at + 195) (operands_at s at c)
+  operands_lie at h (Some (Code.Make k)) = onward s (make_at s k (at + 1)) (omega arith) (make_lies k (at + 1))
+  operands_lie at h (Some (Code.Kill k)) = onward s (cell_at s (Operator.Kill k) (at + 1)) (omega arith) (cell_lies (Operator.Kill k) (at + 1))
+  operands_lie at h (Some (Code.Split k)) = onward s (split_at s k (at + 1)) (omega arith) (split_lies k (at + 1))
+  operands_lie at h (Some (Code.Merge k)) = onward s (cell_at s (Operator.Merge k) (at + 1)) (omega arith) (cell_lies (Operator.Merge k) (at + 1))
+  operands_lie at h (Some (Code.Flip k)) = onward s (cell_at s (Operator.Flip k) (at + 1)) (omega arith) (cell_lies (Operator.Flip k) (at + 1))
+  operands_lie at h None = wrong_lies h (omega arith)
 
   pub operator_lies : (at : ℕ) → OperatorOr s (at + 195) (operator_at s at)
   unfolding operator_at

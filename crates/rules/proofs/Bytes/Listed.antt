@@ -1,4 +1,5 @@
 -- What the bytes of a list say: how many entries it has, that their numbers rise, and the place after it.
+use Rattle.std.specs.Prelude.{Ok, Err}
 use mathlib.Core.Path.{◌≡◌, sym, ap}
 use mathlib.Core.Bool.{Bool, true, false, cond}
 use mathlib.Core.List.{List}
@@ -8,10 +9,8 @@ use native.Mathlib.Omega.{arith}
 use lib.ListN.{length, get_or}
 use Rattle.maths.specs.Repeat.{repeat}
 use Rattle.maths.proofs.Cases.{no_eq}
-use Rattle.rules.specs.declared.form.Field.{Field}
-use Rattle.rules.specs.declared.form.EntryForm.{EntryForm}
 use Rattle.rules.specs.Form.{after_entry, entry_at, entries_at, list_at}
-use Rattle.rules.proofs.Bytes.Fields.{bad_field, bad_entry, byte_after, after_entry_lem}
+use Rattle.rules.proofs.Bytes.Fields.{bad_field, bad_entry, byte_after, after_entry_lem, same_entry}
 
 -- how many bytes an entry has
 abbrev pub width : Bool → ℕ
@@ -48,19 +47,17 @@ record Entered (signed : Bool) (s : List ℕ) (at low low' next : ℕ) : Type 0 
   sign : signed ≡ true → IsSign (get_or s (at + 1) 0)
 
 module _ (s : List ℕ) (at low low' next : ℕ) where
-  entry_says : (signed : Bool) → entry_at signed s at low ≡ EntryForm.Entry low' next → Entered signed s at low low' next
+  entry_says : (signed : Bool) → entry_at signed s at low ≡ Ok (low', next) → Entered signed s at low low' next
   unfolding entry_at
   entry_says true e =
       let a = byte_after s at low 255 _ bad_entry e in
       let b = byte_after s (at + 1) 1 2 _ bad_entry a.1 in
-      let q : get_or s at 0 + 1 ≡ low' = cc b.1 in
-      let p : at + 2 ≡ next = cc b.1 in
-      record { least = a.0.least; low-is = sym q; next-is = sym p; inside = omega (arith, b.0.there); sign = λ _. (b.0.least, b.0.most) }
+      let same = same_entry b.1 in
+      record { least = a.0.least; low-is = sym same.0; next-is = sym same.1; inside = omega (arith, b.0.there); sign = λ _. (b.0.least, b.0.most) }
   entry_says false e =
       let a = byte_after s at low 255 _ bad_entry e in
-      let q : get_or s at 0 + 1 ≡ low' = cc a.1 in
-      let p : at + 1 ≡ next = cc a.1 in
-      record { least = a.0.least; low-is = sym q; next-is = sym p; inside = omega (arith, a.0.there); sign = λ h. no_eq h }
+      let same = same_entry a.1 in
+      record { least = a.0.least; low-is = sym same.0; next-is = sym same.1; inside = omega (arith, a.0.there); sign = λ h. no_eq h }
 
 -- n entries from `at`
 record Entries (signed : Bool) (s : List ℕ) (n at low next : ℕ) : Type 0 where
@@ -90,7 +87,7 @@ module _ (signed : Bool) (s : List ℕ) where
       signs e (suc l) k = rw (← there l) (R.signs e l (omega arith))
 
   entries_say : (n at low next : ℕ) → at ≤ length s →
-      repeat {S = ℕ × ℕ} (λ x go. after_entry (entry_at signed s x.0 x.1) Field.Bad λ low next. go (next, low)) (λ x. Field.Got x.0) n (at, low) ≡ Field.Got next →
+      repeat {S = ℕ × ℕ} (λ x go. after_entry (entry_at signed s x.0 x.1) Err λ low next. go (next, low)) (λ x. Ok x.0) n (at, low) ≡ Ok next →
       Entries signed s n at low next
   unfolding repeat
   entries_say zero at low next h e =
@@ -115,7 +112,7 @@ pub record Listed (signed : Bool) (s : List ℕ) (at next : ℕ) : Type 0 where
   pub rising : (l l' : ℕ) → l < l' → l' < get_or s at 0 → get_or s (at + 1 + width signed * l) 0 < get_or s (at + 1 + width signed * l') 0
   pub signs : signed ≡ true → (l : ℕ) → l < get_or s at 0 → IsSign (get_or s (at + 2 + 2 * l) 0)
 
-pub list_says : (signed : Bool) (s : List ℕ) (at next : ℕ) → list_at signed s at ≡ Field.Got next → Listed signed s at next
+pub list_says : (signed : Bool) (s : List ℕ) (at next : ℕ) → list_at signed s at ≡ Ok next → Listed signed s at next
 unfolding list_at entries_at
 list_says signed s at next e =
     let a = byte_after s at 0 96 _ bad_field e in

@@ -1,4 +1,5 @@
 -- The chain calls by cases, refused or accepted; and what an accepted one writes is within its limit, so its numbers are the whole numbers.
+use Rattle.std.specs.Prelude.{Ok}
 use mathlib.Core.Path.{◌≡◌, refl}
 use mathlib.Core.List.{List}
 use mathlib.Core.Bool.{true, ◌&&◌}
@@ -10,7 +11,6 @@ use lib.ListN.{length, get_or-eq_default}
 use Rattle.maths.specs.Tables.{table}
 use Rattle.maths.proofs.Cases.{lt_or, and_left, and_right, and_both}
 use Rattle.maths.proofs.Tables.{get_d_table, length-table}
-use Rattle.rules.specs.declared.form.OperatorForm.{OperatorForm}
 use Rattle.rules.specs.declared.operator.Operator.{Operator}
 use Rattle.rules.specs.Refusals.{accepted, wrong_length, not_good, wrong_form, wrong_chain, not_carried, no_place}
 use Rattle.rules.specs.Complex.{Pattern, Chain, complex}
@@ -57,7 +57,7 @@ pub record CarryTaken (p : Pattern) (s : List ℕ) (d : ℕ) (c out : List ℤ) 
   pub dim : within 0 3 d ≡ true
   pub operator : Operator
   pub next : ℕ
-  pub form : lone_operator s ≡ OperatorForm.Decoded operator next
+  pub form : lone_operator s ≡ Ok (operator, next)
   pub carried : carry_step operator (faces_of s operator) (complex p) ≡ edited S
   pub chain : is_chain carry_limit (complex p d).n (coefficients c) ≡ true
 

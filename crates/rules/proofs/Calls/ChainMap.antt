@@ -22,6 +22,7 @@ use Rattle.rules.specs.Operators.{edited}
 use Rattle.rules.specs.Form.{faces_of}
 use Rattle.rules.specs.Chains.{is_chain, boundary_limit, carry_limit}
 use Rattle.rules.specs.Calls.{handed_back, operator_left, apply_call, Given, given, coefficients, boundary_call, carry_call}
+use Rattle.rules.proofs.Bytes.Fields.{same_operator}
 use Rattle.rules.proofs.Layers.Frame.{Within}
 use Rattle.rules.proofs.Bytes.Decoded.{decoded}
 use Rattle.rules.proofs.Storage.Stored.{sized-is, stored-held, complex-stored}
@@ -161,7 +162,7 @@ calls_commute {p} H s d c out x room e e' =
 -- the bytes of one operator carry in one way
 same_steps : {p : Pattern} {s : List ℕ} {d : ℕ} {c c' out out' : List ℤ} {S S' : ℕ → Step} → CarryTaken p s d c out S → CarryTaken p s d c' out' S' → S' ≡ S
 same_steps {p} {s} {S = S} {S' = S'} C C' =
-    let q : C'.operator ≡ C.operator = cc (sym C'.form ∙ C.form) in
+    let q : C'.operator ≡ C.operator = (same_operator (sym C'.form ∙ C.form)).0 in
     let e : edited S' ≡ edited S = sym C'.carried ∙ rw q C.carried in
     cc
 

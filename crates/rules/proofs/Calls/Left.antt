@@ -1,5 +1,6 @@
 -- Demands 1 and 2 of the calls of one operator and of a script, in counts and bytes: what is left is good whatever was refused, the Euler number has
 -- moved by the listed amounts, and a script that is faulty or stale runs nothing.
+use Rattle.std.specs.Prelude.{Ok, Err}
 use mathlib.Core.Path.{◌≡◌, sym, ◌∙◌, ap}
 use mathlib.Core.Bool.{true, false}
 use mathlib.Core.List.{List}
@@ -10,11 +11,8 @@ use lib.ListN.{length}
 use Rattle.maths.specs.Sums.{dot}
 use Rattle.maths.specs.Tables.{entries}
 use Rattle.maths.proofs.Cases.{bool_or}
-use Rattle.rules.specs.declared.answers.Applied.{Applied}
-use Rattle.rules.specs.declared.answers.ScriptRun.{ScriptRun}
+use Rattle.rules.specs.Answers.{Applied, ScriptRun}
 use Rattle.rules.specs.declared.form.Fault.{Fault}
-use Rattle.rules.specs.declared.form.Field.{Field}
-use Rattle.rules.specs.declared.form.OperatorForm.{OperatorForm}
 use Rattle.rules.specs.declared.operator.Operator.{Operator}
 use Rattle.rules.specs.Refusals.{accepted, stale, no_place}
 use Rattle.rules.specs.Complex.{Pattern, Complex, complex, stored, euler}
@@ -58,13 +56,13 @@ not_moved : {p : Pattern} → Held p → Moved p p (pos 0)
 not_moved {p} H = moved H H (sym (+ℤ_idr (euler (complex p))))
 
 -- the bytes of one operator begin with it
-pub lone_at : (s : List ℕ) {o : Operator} {next : ℕ} → lone_operator s ≡ OperatorForm.Decoded o next → operator_at s 0 ≡ OperatorForm.Decoded o next
+pub lone_at : (s : List ℕ) {o : Operator} {next : ℕ} → lone_operator s ≡ Ok (o, next) → operator_at s 0 ≡ Ok (o, next)
 unfolding lone_operator
 lone_at s {o} {next} e =
     let a = after_operator_lem (operator_at s 0) bad_operator e in
     bool_or (ltb a.1 (length s))
     (λ t. absurd (bad_operator (Fault.Left a.1) (rw t at a.3)))
-    (λ t. let q : OperatorForm.Decoded a.0 a.1 ≡ OperatorForm.Decoded o next = rw t at a.3 in a.2 ∙ q)
+    (λ t. let q : Ok (a.0, a.1) ≡ Ok (o, next) = rw t at a.3 in a.2 ∙ q)
 
 module _ {p : Pattern} (H : Held p) (s : List ℕ) where
   -- an operator in form on a good pattern: what holds of a refusal and of a good pattern whose Euler number has moved, holds of what follows it
@@ -86,7 +84,7 @@ module _ {p : Pattern} (H : Held p) (s : List ℕ) where
       (operator_each (λ l. Held (operator_left l)) (lone_operator s) (λ f. H) (λ o next e.
       formed_each (λ l. Held (operator_left l)) o (decoded s 0 (lone_at s e)).0 (λ r n. H) (λ Y K. stored-held K.good)))
 
-  pub apply_moves : {o : Operator} {next : ℕ} → lone_operator s ≡ OperatorForm.Decoded o next → (apply_call p s).answer.refusal ≡ accepted →
+  pub apply_moves : {o : Operator} {next : ℕ} → lone_operator s ≡ Ok (o, next) → (apply_call p s).answer.refusal ≡ accepted →
       Moved p (operator_left (apply_call p s)) (amount_of o)
   unfolding apply_call
   apply_moves {o} e =
@@ -118,10 +116,10 @@ module _ {p : Pattern} (H : Held p) (s : List ℕ) where
     nothing_runs : (r at : ℕ) → idle (stored (complex p)) r at ≡ idle p r at
     nothing_runs r at = ap (λ (q : Pattern). idle q r at) (stored-complex p H.sized)
 
-    pub faulty_runs_nothing : (f : Fault) → script_form s ≡ Field.Bad f → run_call p s ≡ idle p (fault_number f) (fault_place f)
+    pub faulty_runs_nothing : (f : Fault) → script_form s ≡ Err f → run_call p s ≡ idle p (fault_number f) (fault_place f)
     unfolding run_call run_script
     faulty_runs_nothing f e = rw (sized-is H.sized, short, good-is H.good, e) (nothing_runs (fault_number f) (fault_place f))
 
-    pub stale_runs_nothing : (n : ℕ) → script_form s ≡ Field.Got n → same_base s (complex p) ≡ false → run_call p s ≡ idle p stale no_place
+    pub stale_runs_nothing : (n : ℕ) → script_form s ≡ Ok n → same_base s (complex p) ≡ false → run_call p s ≡ idle p stale no_place
     unfolding run_call run_script
     stale_runs_nothing n e b = rw (sized-is H.sized, short, good-is H.good, e, b) (nothing_runs stale no_place)

@@ -1,5 +1,6 @@
 -- "A merge where the two cells share any face besides the named one is now refused": so no call is ever refused by 12, and an accepted merge leaves no
 -- loose face behind.
+use Rattle.std.specs.Prelude.{Ok}
 use mathlib.Core.Path.{◌≡◌, refl}
 use mathlib.Core.Logic.{◌≢◌}
 use mathlib.Core.Bool.{◌&&◌}
@@ -9,11 +10,7 @@ use native.Mathlib.Omega.{arith}
 use lib.Dec.{leb}
 use lib.IntN.{ℤ}
 use lib.ListN.{length}
-use Rattle.rules.specs.declared.answers.MeshRead.{MeshRead}
-use Rattle.rules.specs.declared.answers.EulerNumber.{EulerNumber}
-use Rattle.rules.specs.declared.answers.OperatorApplied.{OperatorApplied}
-use Rattle.rules.specs.declared.answers.ScriptRun.{ScriptRun}
-use Rattle.rules.specs.declared.form.OperatorForm.{OperatorForm}
+use Rattle.rules.specs.Answers.{MeshRead, EulerNumber, OperatorApplied, ScriptRun}
 use Rattle.rules.specs.declared.operator.Operator.{Operator}
 use Rattle.rules.specs.Refusals.{accepted, wrong_sum}
 use Rattle.rules.specs.Complex.{Pattern, Complex, Chain, complex}
@@ -86,7 +83,7 @@ pub carry_never_12 : (p : Pattern) (s : List ℕ) (d : ℕ) (c out : List ℤ) �
 carry_never_12 p s d c out = carry_call_each (λ g. g.refusal ≢ wrong_sum) p d c out (λ r at n. n.not_12) s (λ S C. omega arith)
 
 -- After an accepted call of a merge at t every face of the two cells but t is a face of the merged one: no loose face.
-module _ {p : Pattern} (H : Held p) (s : List ℕ) (k t next : ℕ) (form : lone_operator s ≡ OperatorForm.Decoded (Operator.Merge k t) next) where
+module _ {p : Pattern} (H : Held p) (s : List ℕ) (k t next : ℕ) (form : lone_operator s ≡ Ok (Operator.Merge k t, next)) where
   abbrev X : Complex
   X = complex p
 

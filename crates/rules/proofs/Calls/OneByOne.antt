@@ -1,5 +1,6 @@
 -- A script in calls of one operator: the call of a script leaves what the calls of the operators that ran, one by one, leave; and the operator that is
 -- refused is refused by its own call with the same number, which changes nothing.
+use Rattle.std.specs.Prelude.{Ok}
 use mathlib.Core.Path.{◌≡◌, refl, ◌∙◌, ap, subst}
 use mathlib.Core.Logic.{◌≢◌}
 use mathlib.Core.Bool.{true}
@@ -10,11 +11,8 @@ use native.Mathlib.Omega.{arith}
 use lib.Dec.{ltb}
 use lib.ListN.{length}
 use Rattle.maths.specs.Repeat.{repeat}
-use Rattle.rules.specs.declared.answers.OperatorApplied.{OperatorApplied}
-use Rattle.rules.specs.declared.answers.ScriptRun.{ScriptRun}
+use Rattle.rules.specs.Answers.{OperatorApplied, ScriptRun}
 use Rattle.rules.specs.declared.form.Fault.{Fault}
-use Rattle.rules.specs.declared.form.Field.{Field}
-use Rattle.rules.specs.declared.form.OperatorForm.{OperatorForm}
 use Rattle.rules.specs.declared.operator.Operator.{Operator}
 use Rattle.rules.specs.Refusals.{accepted, no_place}
 use Rattle.rules.specs.Complex.{Pattern, Complex, complex, stored}
@@ -39,14 +37,14 @@ call_at s at next p = apply_call p (bytes_from s at next)
 -- n calls, all accepted: from the place `at` and the pattern p to the place `end` and the pattern q
 pub data Calls (s : List ℕ) : ℕ → ℕ → Pattern → ℕ → Pattern → Type 0 where
   none : {at : ℕ} {p : Pattern} → Calls s 0 at p at p
-  more : {n at end next : ℕ} {p q : Pattern} {o : Operator} → operator_at s at ≡ OperatorForm.Decoded o next → (call_at s at next p).answer.refusal ≡ accepted →
+  more : {n at end next : ℕ} {p q : Pattern} {o : Operator} → operator_at s at ≡ Ok (o, next) → (call_at s at next p).answer.refusal ≡ accepted →
       Calls s n next (operator_left (call_at s at next p)) end q → Calls s (suc n) at p end q
 
 -- the call of the operator at `at` is refused by r, and leaves p
 pub record Stops (s : List ℕ) (at : ℕ) (p : Pattern) (r : ℕ) : Type 0 where
   pub operator : Operator
   pub next : ℕ
-  pub form : operator_at s at ≡ OperatorForm.Decoded operator next
+  pub form : operator_at s at ≡ Ok (operator, next)
   pub call : call_at s at next p ≡ handed_back p r no_place
 
 -- how a run from p, of which `ran` operators went before, ended: by that many calls, and with the call that was refused
@@ -61,14 +59,14 @@ record Reached (s : List ℕ) (at ran : ℕ) (p : Pattern) (e : Ended) : Type 0 
   last : e.refusal ≢ accepted → Stops s place left e.refusal
 
 -- the call with an operator's own bytes does what the script does
-pub own_call : {p : Pattern} → Held p → (s : List ℕ) (at : ℕ) {o : Operator} {next : ℕ} → operator_at s at ≡ OperatorForm.Decoded o next →
+pub own_call : {p : Pattern} → Held p → (s : List ℕ) (at : ℕ) {o : Operator} {next : ℕ} → operator_at s at ≡ Ok (o, next) →
     call_at s at next p ≡ handed_back_of p (step o (faces_of s o) (complex p))
 unfolding apply_call
 own_call {p} H s at e = let A = alone s at e in rw (sized-is H.sized, good-is H.good, A.form, A.steps (complex p))
 
 module _ (s : List ℕ) where
   -- one call more
-  one_more_lem : {at next ran : ℕ} {p : Pattern} {o : Operator} {e : Ended} (Y : Complex) → operator_at s at ≡ OperatorForm.Decoded o next →
+  one_more_lem : {at next ran : ℕ} {p : Pattern} {o : Operator} {e : Ended} (Y : Complex) → operator_at s at ≡ Ok (o, next) →
       call_at s at next p ≡ handed_back (stored Y) accepted no_place → Reached s next (ran + 1) (stored Y) e → Reached s at ran p e
   one_more_lem {at} {next} {ran} {p} {o} Y d c R =
       let rest : Calls s R.number next (operator_left (call_at s at next p)) R.place R.left = rw c R.calls in
@@ -84,8 +82,8 @@ module _ (s : List ℕ) where
       }
 
   -- operators in form: the first, and those after it
-  first_in_form : (count n m at : ℕ) → operators_at s count (suc n) at ≡ Field.Got m →
-      (o : Operator) × (next : ℕ) × (operator_at s at ≡ OperatorForm.Decoded o next) × (operators_at s count n next ≡ Field.Got m)
+  first_in_form : (count n m at : ℕ) → operators_at s count (suc n) at ≡ Ok m →
+      (o : Operator) × (next : ℕ) × (operator_at s at ≡ Ok (o, next)) × (operators_at s count n next ≡ Ok m)
   unfolding operators_at repeat
   first_in_form count n m at f = after_operator_lem (operator_at s at) bad_field f
 
@@ -94,7 +92,7 @@ module _ (s : List ℕ) where
   unfolding run_from repeat
   run_none h = refl
 
-  run-next : (n : ℕ) (h : Here) {o : Operator} {next : ℕ} → operator_at s h.at ≡ OperatorForm.Decoded o next →
+  run-next : (n : ℕ) (h : Here) {o : Operator} {next : ℕ} → operator_at s h.at ≡ Ok (o, next) →
       run_from s (suc n) h ≡ after_step (step o (faces_of s o) h.now) (λ r. ended h.now h.ran r) (λ Y. run_from s n (record { now = Y; ran = h.ran + 1; at = next }))
   unfolding run_from repeat run_one
   run-next n h d = rw d
@@ -104,7 +102,7 @@ module _ (s : List ℕ) where
   stays {at} {ran} {p} r H last = record { number = 0; ran-is = omega arith; place = at; left = p; held = H; now-is = refl; calls = none; last = last }
 
   -- an operator in form, and n more after it, on whatever good pattern it leaves
-  module _ (n at ran : ℕ) {p : Pattern} (H : Held p) (o : Operator) (next : ℕ) (d : operator_at s at ≡ OperatorForm.Decoded o next)
+  module _ (n at ran : ℕ) {p : Pattern} (H : Held p) (o : Operator) (next : ℕ) (d : operator_at s at ≡ Ok (o, next))
       (rest : (q : Pattern) → Held q → Reached s next (ran + 1) q (run_from s n (record { now = complex q; ran = ran + 1; at = next }))) where
     call : call_at s at next p ≡ handed_back_of p (step o (faces_of s o) (complex p))
     call = own_call H s at d
@@ -123,7 +121,7 @@ module _ (s : List ℕ) where
         (λ Y q. one_more_lem Y d (call ∙ ap (handed_back_of p) q) (on Y (removal_kept H.good s o F q).good)))
 
   -- n operators in form
-  runs : (count n m at ran : ℕ) (p : Pattern) → Held p → operators_at s count n at ≡ Field.Got m →
+  runs : (count n m at ran : ℕ) (p : Pattern) → Held p → operators_at s count n at ≡ Ok m →
       Reached s at ran p (run_from s n (record { now = complex p; ran = ran; at = at }))
   runs count zero m at ran p H f = rw (run_none (record { now = complex p; ran = ran; at = at })) (stays accepted H (λ n. absurd (n refl)))
   runs count (suc n) m at ran p H f =
@@ -131,13 +129,13 @@ module _ (s : List ℕ) where
       run_more n at ran H a.0 a.1 a.2 (λ q K. runs count n m a.1 (ran + 1) q K a.3)
 
   -- the count that the form of a script answers is that of its operators
-  operators_count : (count n m at : ℕ) → operators_at s count n at ≡ Field.Got m → count ≡ m
+  operators_count : (count n m at : ℕ) → operators_at s count n at ≡ Ok m → count ≡ m
   unfolding operators_at repeat
   operators_count count zero m at f =
-      cond_each (λ x. x ≡ Field.Got m → count ≡ m) (ltb at (length s)) (λ t e. absurd (bad_field (Fault.Left at) e)) (λ t e. cc e) f
+      cond_each (λ x. x ≡ Ok m → count ≡ m) (ltb at (length s)) (λ t e. absurd (bad_field (Fault.Left at) e)) (λ t e. cc e) f
   operators_count count (suc n) m at f = let a = after_operator_lem (operator_at s at) bad_field f in operators_count count n m a.1 a.3
 
-  in_form : {n : ℕ} → script_form s ≡ Field.Got n → operators_at s n n 7 ≡ Field.Got n
+  in_form : {n : ℕ} → script_form s ≡ Ok n → operators_at s n n 7 ≡ Ok n
   unfolding script_form
   in_form {n} f =
       let a = after_got (byte_at s 0 4 4) bad_field f in
@@ -160,7 +158,7 @@ module _ {p : Pattern} (H : Held p) (s : List ℕ) where
       record { place = R.place; calls = rw (same, ran) R.calls; last = λ n. rw same (R.last n) }
 
   -- "operators run in order up to the first refusal; earlier ones remain"
-  pub run_one_by_one : sized_script s ≡ true → (n : ℕ) → script_form s ≡ Field.Got n → same_base s (complex p) ≡ true → OneByOne s p (run_call p s)
+  pub run_one_by_one : sized_script s ≡ true → (n : ℕ) → script_form s ≡ Ok n → same_base s (complex p) ≡ true → OneByOne s p (run_call p s)
   unfolding run_call run_script
   run_one_by_one short n form base =
       rw (sized-is H.sized, short, good-is H.good, form, base) (reached (runs s n n n 7 0 p H (in_form s form)))

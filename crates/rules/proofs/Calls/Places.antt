@@ -5,9 +5,7 @@ use mathlib.Core.Bool.{true, false, ◌&&◌}
 use mathlib.Core.List.{List}
 use Prim.Native.Nat.{ℕ}
 use lib.IntN.{ℤ}
-use Rattle.rules.specs.declared.answers.MeshRead.{MeshRead}
-use Rattle.rules.specs.declared.answers.OperatorApplied.{OperatorApplied}
-use Rattle.rules.specs.declared.answers.ScriptRun.{ScriptRun}
+use Rattle.rules.specs.Answers.{MeshRead, OperatorApplied, ScriptRun}
 use Rattle.rules.specs.Refusals.{no_place}
 use Rattle.rules.specs.Complex.{Pattern, complex}
 use Rattle.rules.specs.Good.{is_good}

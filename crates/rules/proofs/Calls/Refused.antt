@@ -8,10 +8,7 @@ use lib.Dec.{leb}
 use lib.IntN.{ℤ, pos}
 use lib.ListN.{length}
 use Rattle.maths.proofs.Cases.{no_eq}
-use Rattle.rules.specs.declared.answers.MeshRead.{MeshRead}
-use Rattle.rules.specs.declared.answers.EulerNumber.{EulerNumber}
-use Rattle.rules.specs.declared.answers.OperatorApplied.{OperatorApplied}
-use Rattle.rules.specs.declared.answers.ScriptRun.{ScriptRun}
+use Rattle.rules.specs.Answers.{MeshRead, EulerNumber, OperatorApplied, ScriptRun}
 use Rattle.rules.specs.Refusals.{accepted, wrong_length, not_good, short_output, no_place}
 use Rattle.rules.specs.Complex.{Pattern, complex, empty, counts_of, stored}
 use Rattle.rules.specs.Good.{is_good}

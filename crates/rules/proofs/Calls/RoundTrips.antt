@@ -8,7 +8,7 @@ use borrow.Author.Tests.{le-leb}
 use lib.Dec.{leb}
 use lib.ListN.{length, take, drop}
 use lib.Seq.{take-append_seam}
-use Rattle.rules.specs.declared.answers.MeshRead.{MeshRead}
+use Rattle.rules.specs.Answers.{MeshRead}
 use Rattle.rules.specs.Refusals.{accepted, no_place}
 use Rattle.rules.specs.Complex.{Pattern, Complex, complex, stored}
 use Rattle.rules.specs.Good.{Good, Held}

@@ -1,4 +1,5 @@
 -- Demand 3 through a script, operator by operator, in the bytes of the calls.
+use Rattle.std.specs.Prelude.{Ok}
 use mathlib.Core.Path.{◌≡◌, refl, sym, ◌∙◌, ap}
 use mathlib.Core.Bool.{true}
 use mathlib.Core.List.{List}
@@ -11,8 +12,7 @@ use Rattle.maths.specs.Tables.{table}
 use Rattle.maths.specs.Repeat.{repeat}
 use Rattle.maths.proofs.Cases.{and_both}
 use Rattle.maths.proofs.Tables.{length-table}
-use Rattle.rules.specs.declared.answers.OperatorApplied.{OperatorApplied}
-use Rattle.rules.specs.declared.form.OperatorForm.{OperatorForm}
+use Rattle.rules.specs.Answers.{OperatorApplied}
 use Rattle.rules.specs.declared.operator.Operator.{Operator}
 use Rattle.rules.specs.Refusals.{accepted, stale, not_carried}
 use Rattle.rules.specs.Complex.{Pattern, Complex, complex, stored}
@@ -24,7 +24,7 @@ use Rattle.rules.specs.Script.{same_base}
 use Rattle.rules.specs.Chains.{is_chain, carry_limit, carry_step, after_carry, then, carry_one, carry_from, carry_script}
 use Rattle.rules.specs.Calls.{Lent, operator_left, Given, coefficients, boundary_call, carry_call}
 use Rattle.rules.proofs.Branches.Branches.{cond_each, refused-edited}
-use Rattle.rules.proofs.Bytes.Fields.{after_got, after_operator_lem}
+use Rattle.rules.proofs.Bytes.Fields.{after_got, after_operator_lem, same_operator}
 use Rattle.rules.proofs.Bytes.Alone.{bytes_from, alone}
 use Rattle.rules.proofs.Storage.Stored.{sized-is, stored-held, complex-stored}
 use Rattle.rules.proofs.Storage.Tested.{good-is}
@@ -47,7 +47,7 @@ boundary_of d p c = boundary_call p d c zero_chain
 -- n operators from `at`, each accepted by carrying: from the pattern p and the chain c to the pattern q and the chain c'
 pub data Carrying (s : List ℕ) (d : ℕ) : ℕ → ℕ → Pattern → List ℤ → Pattern → List ℤ → Type 0 where
   arrived : {at : ℕ} {p : Pattern} {c : List ℤ} → Carrying s d 0 at p c p c
-  through : {n at next : ℕ} {p q : Pattern} {c c' : List ℤ} {o : Operator} → operator_at s at ≡ OperatorForm.Decoded o next →
+  through : {n at next : ℕ} {p q : Pattern} {c c' : List ℤ} {o : Operator} → operator_at s at ≡ Ok (o, next) →
       (carry_at s at next d p c).refusal ≡ accepted →
       Carrying s d n next (operator_left (call_at s at next p)) (carry_at s at next d p c).out q c' → Carrying s d (suc n) at p c q c'
 
@@ -78,7 +78,7 @@ module _ (s : List ℕ) where
   carrying_faithful H arrived arrived same = same
   carrying_faithful {d} {at = at} {p} {q' = q'} {c} {c'} {x' = x'} H (through {n = n} {next = next} e a rest) (through {next = next'} e' a' rest') same =
       let b = bytes_from s at next in
-      let q : next' ≡ next = cc (sym e' ∙ e) in
+      let q : next' ≡ next = (same_operator (sym e' ∙ e)).1 in
       let r : Carrying s d n next (operator_left (call_at s at next p)) (carry_at s at next d p c').out q' x' = rw q at rest' in
       carry_faithful H b d c c' zero_chain zero_chain a (rw q at a') (carrying_faithful (apply_held H b) rest r same)
 
@@ -91,7 +91,7 @@ after_carry_lem (removed Y) e = absurd (refused-edited not_carried e)
 record First (s : List ℕ) (n at : ℕ) (S R : ℕ → Step) : Type 0 where
   operator : Operator
   next : ℕ
-  form : operator_at s at ≡ OperatorForm.Decoded operator next
+  form : operator_at s at ≡ Ok (operator, next)
   step : ℕ → Step
   carried : carry_step operator (faces_of s operator) (layers S) ≡ edited step
   rest : carry_from s n (then S step, next) ≡ edited R
@@ -117,7 +117,7 @@ module _ (s : List ℕ) (d : ℕ) (dim : d ≤ 3) where
     pub left : complex end ≡ X
 
   -- an operator's own bytes are accepted
-  own_taken : {p : Pattern} → Held p → (at : ℕ) {o : Operator} {next : ℕ} {S : ℕ → Step} → operator_at s at ≡ OperatorForm.Decoded o next →
+  own_taken : {p : Pattern} → Held p → (at : ℕ) {o : Operator} {next : ℕ} {S : ℕ → Step} → operator_at s at ≡ Ok (o, next) →
       carry_step o (faces_of s o) (complex p) ≡ edited S → (c : List ℤ) → length c ≡ 96 → is_chain carry_limit (complex p d).n (coefficients c) ≡ true →
       CarryTaken p (bytes_from s at next) d c zero_chain S
   own_taken {p} H at {next = next} e q c long w =

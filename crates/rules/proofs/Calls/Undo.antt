@@ -1,11 +1,11 @@
 -- Merge undoes split: any accepted split followed by merge at the dividing cell is accepted and gives back every count and every byte.
+use Rattle.std.specs.Prelude.{Ok}
 use mathlib.Core.Path.{◌≡◌, ◌∙◌, ap}
 use mathlib.Core.List.{List, [], ◌∷◌}
 use Prim.Native.Nat.{ℕ, zero, suc, ◌+◌, ◌<◌, ◌≤◌}
 use native.Mathlib.Omega.{arith}
 use borrow.Author.Tests.{le-leb}
-use Rattle.rules.specs.declared.answers.OperatorApplied.{OperatorApplied}
-use Rattle.rules.specs.declared.form.OperatorForm.{OperatorForm}
+use Rattle.rules.specs.Answers.{OperatorApplied}
 use Rattle.rules.specs.declared.operator.Operator.{Operator}
 use Rattle.rules.specs.Refusals.{accepted, no_place}
 use Rattle.rules.specs.Complex.{Pattern, Complex, complex, stored}
@@ -39,14 +39,14 @@ module _ {X : Complex} (G : Good X) (m s : ℕ) (F : Faces) (S : ℕ → Step) (
 abbrev pub merge_bytes : ℕ → ℕ → List ℕ
 merge_bytes m t = (0x40 + m) ∷ t ∷ []
 
-merge-form : (m t : ℕ) → m < 3 → t ≤ 255 → lone_operator (merge_bytes m t) ≡ OperatorForm.Decoded (Operator.Merge m t) 2
+merge-form : (m t : ℕ) → m < 3 → t ≤ 255 → lone_operator (merge_bytes m t) ≡ Ok (Operator.Merge m t, 2)
 unfolding lone_operator operator_at byte_at code_of cell_at
 merge-form zero t d h = rw (le-leb t 255 h, le-leb 0 t (omega arith))
 merge-form (suc zero) t d h = rw (le-leb t 255 h, le-leb 0 t (omega arith))
 merge-form (suc (suc zero)) t d h = rw (le-leb t 255 h, le-leb 0 t (omega arith))
 merge-form (suc (suc (suc m))) t d h = absurd (omega arith)
 
-module _ {p : Pattern} (H : Held p) (s : List ℕ) (m c list next : ℕ) (form : lone_operator s ≡ OperatorForm.Decoded (Operator.Split (suc m) c list) next) where
+module _ {p : Pattern} (H : Held p) (s : List ℕ) (m c list next : ℕ) (form : lone_operator s ≡ Ok (Operator.Split (suc m) c list, next)) where
   abbrev splitting : Outcome
   splitting = step (Operator.Split (suc m) c list) (faces_of s (Operator.Split (suc m) c list)) (complex p)
 

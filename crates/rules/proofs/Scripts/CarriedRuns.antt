@@ -1,11 +1,11 @@
 -- Carrying through an accepted script of makes, splits and flips is a chain map that loses nothing, and the pattern is the one that the script leaves.
+use Rattle.std.specs.Prelude.{Ok}
 use mathlib.Core.Path.{◌≡◌, ◌∙◌, ap}
 use mathlib.Core.List.{List}
 use Prim.Native.Nat.{ℕ, zero, suc, ◌+◌}
 use native.Mathlib.Nat.{add-zero, zero-add}
 use native.Mathlib.Omega.{arith}
 use Rattle.maths.specs.Repeat.{repeat}
-use Rattle.rules.specs.declared.form.Field.{Field}
 use Rattle.rules.specs.Refusals.{accepted}
 use Rattle.rules.specs.Complex.{Complex}
 use Rattle.rules.specs.Good.{Good}
@@ -64,10 +64,10 @@ module _ (s : List ℕ) where
       let ahead : ran + 1 + n ≡ ran + suc n = omega arith in
       rw (d, carry_step_lem o (faces_of s o) (layers S) q, ← ahead) (carry_runs n next (ran + 1) _ R e)
 
-  pub script_runs : (X : Complex) (R : ℕ → Step) → carry_script s X ≡ edited R → (n : ℕ) × (script_form s ≡ Field.Got n) × (run_script s X ≡ ended (layers R) n accepted)
+  pub script_runs : (X : Complex) (R : ℕ → Step) → carry_script s X ≡ edited R → (n : ℕ) × (script_form s ≡ Ok n) × (run_script s X ≡ ended (layers R) n accepted)
   unfolding carry_script run_script
   script_runs X =
-      let P : Outcome → Type 0 = IfEdited (λ R. (n : ℕ) × (script_form s ≡ Field.Got n) × (run_script s X ≡ ended (layers R) n accepted)) in
+      let P : Outcome → Type 0 = IfEdited (λ R. (n : ℕ) × (script_form s ≡ Ok n) × (run_script s X ≡ ended (layers R) n accepted)) in
       after_each P (script_form s) (λ f R e. no_edit e) λ n f.
       cond_each P (same_base s X)
       (λ t R e. (n, f, rw (f, t) (carry_runs n 7 0 (λ q. kept (X q)) R e ∙ ap (λ (k : ℕ). ended (layers R) k accepted) (zero-add n))))

@@ -1,4 +1,5 @@
 -- Good is kept by any run of a script, and the Euler number moves by the amounts of the operators that were accepted.
+use Rattle.std.specs.Prelude.{Ok}
 use mathlib.Core.Path.{◌≡◌, refl, sym, ◌∙◌, ap}
 use mathlib.Core.Logic.{◌≢◌}
 use mathlib.Core.List.{List}
@@ -7,7 +8,6 @@ use native.Mathlib.Nat.{add-zero}
 use native.Mathlib.Omega.{arith}
 use lib.IntN.{ℤ, ◌+ℤ◌, +ℤ_idr, +ℤ_assoc}
 use Rattle.maths.specs.Repeat.{repeat}
-use Rattle.rules.specs.declared.form.OperatorForm.{OperatorForm}
 use Rattle.rules.specs.declared.operator.Operator.{Operator}
 use Rattle.rules.specs.Refusals.{wrong_sum}
 use Rattle.rules.specs.Complex.{Complex, euler}
@@ -44,7 +44,7 @@ module _ (s : List ℕ) where
     not_12 = n12;
   }
 
-  one_more_lem : {n : ℕ} {h : Here} {e : Ended} {o : Operator} {Y : Complex} {next : ℕ} → operator_at s h.at ≡ OperatorForm.Decoded o next → Kept o h.now Y →
+  one_more_lem : {n : ℕ} {h : Here} {e : Ended} {o : Operator} {Y : Complex} {next : ℕ} → operator_at s h.at ≡ Ok (o, next) → Kept o h.now Y →
       Ran s n (record { now = Y; ran = h.ran + 1; at = next }) e → Ran s (suc n) h e
   unfolding moved_by
   one_more_lem {n} {h} {e} {o} {Y} {next} d K R = record {

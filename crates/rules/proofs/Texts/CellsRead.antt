@@ -1,4 +1,5 @@
 -- A cell as it was written is read, and it is made.
+use Rattle.std.specs.Prelude.{Ok}
 use mathlib.Core.Path.{◌≡◌, refl, sym, ◌∙◌, ap, fun_ext}
 use mathlib.Core.Logic.{◌≢◌}
 use mathlib.Core.Bool.{true, not}
@@ -12,8 +13,6 @@ use lib.IntN.{pos, nat_abs}
 use Rattle.maths.specs.Tests.{all}
 use Rattle.maths.proofs.Cases.{eq_or, lt_or, and_both}
 use Rattle.maths.proofs.Tests.{all_of, count_le}
-use Rattle.rules.specs.declared.form.Field.{Field}
-use Rattle.rules.specs.declared.form.OperatorForm.{OperatorForm}
 use Rattle.rules.specs.declared.operator.Operator.{Operator}
 use Rattle.rules.specs.Complex.{Complex, Chain}
 use Rattle.rules.specs.Good.{all_zero, closes}
@@ -34,7 +33,7 @@ use Rattle.rules.proofs.Bytes.Decoded.{made}
 
 -- the cell with the column v of dimension k, read from `at` to `next`
 record CellRead (s : List ℕ) (k at : ℕ) (v : Chain) (next : ℕ) : Type 0 where
-  form : make_at s k at ≡ OperatorForm.Decoded (Operator.Make k at) next
+  form : make_at s k at ≡ Ok (Operator.Make k at, next)
   chain : chain_of (made_of s k at) ≡ v
   faces : (l : ℕ) → l < (made_of s k at).n → v ((made_of s k at).number l) ≢ pos 0
 
@@ -43,7 +42,7 @@ module _ {s : List ℕ} {at next : ℕ} {v : Chain} where
   unfolding make_at made_of
   seam_read {a} {b} E r =
       let t = two r in
-      let form : make_at s 1 at ≡ OperatorForm.Decoded (Operator.Make 1 at) next =
+      let form : make_at s 1 at ≡ Ok (Operator.Make 1 at, next) =
       rw (
         byte_got s at 0 255 a (record { there = omega arith; is = sym t.one; least = omega arith; most = omega (arith, E.low) }),
         byte_got s (at + 1) 0 255 b (record { there = t.there; is = sym t.other; least = omega arith; most = omega (arith, E.high) }),
@@ -61,7 +60,7 @@ module _ {s : List ℕ} {at next : ℕ} {v : Chain} where
   unfolding make_at made_of list_at entries_at chain_of
   list_read k u w (byte h e r) =
       let b = below 96 (omega arith) u r in
-      let q : entries_at true s (faces_below v 96) (at + 1) ≡ Field.Got next = b.read (λ x. Field.Got x.0) in
+      let q : entries_at true s (faces_below v 96) (at + 1) ≡ Ok next = b.read (λ x. Ok x.0) in
       record {
         form = rw (
           ne_eqb (suc (suc k)) 0 (omega arith),

@@ -1,4 +1,5 @@
 -- A cell that was read and made is written as it stood.
+use Rattle.std.specs.Prelude.{Ok}
 use mathlib.Core.Path.{◌≡◌, refl, sym}
 use mathlib.Core.Logic.{◌≢◌}
 use mathlib.Core.Bool.{true}
@@ -9,7 +10,6 @@ use native.Mathlib.Omega.{arith}
 use borrow.Author.Tests.{ne_eqb}
 use lib.ListN.{get_or}
 use Rattle.rules.specs.declared.form.Fault.{Fault}
-use Rattle.rules.specs.declared.form.OperatorForm.{OperatorForm}
 use Rattle.rules.specs.declared.operator.Operator.{Operator}
 use Rattle.rules.specs.Complex.{Complex, Chain}
 use Rattle.rules.specs.Edits.{layers, make}
@@ -40,7 +40,7 @@ make-taken : {Y : Complex} {used : ℕ} (go : Complex → Reading) (k : ℕ) (F 
 make-taken go k F X e = let t = make_tests k F X (λ r q. no_refusal r (rw (← q) at e)) refl in (t, rw (← t.is) at e)
 
 -- it is written with the bytes that it was read from
-seam_text_lem : {s : List ℕ} {at next : ℕ} {o : Operator} {x : Outcome} (X : Complex) → (X 0).n ≤ 96 → make_at s 1 at ≡ OperatorForm.Decoded o next →
+seam_text_lem : {s : List ℕ} {at next : ℕ} {o : Operator} {x : Outcome} (X : Complex) → (X 0).n ≤ 96 → make_at s 1 at ≡ Ok (o, next) →
     TailHead (made_of s 1 at) → MakeTests 1 (made_of s 1 at) X x → Text s at (tail_of (chain_of (made_of s 1 at)) ∷ head_of (chain_of (made_of s 1 at)) ∷ []) next
 unfolding made_of
 seam_text_lem {s} {at} X few e T m =
@@ -69,7 +69,7 @@ module _ {s : List ℕ} {at next : ℕ} {x : Outcome} (k : ℕ) (X : Complex) (f
       let p : next ≡ at + 1 + 2 * get_or s at 0 = omega (arith, L.next-is) in
       rw p (byte L.there (sym w.0) w.1)
 
-cell-text : {s : List ℕ} {at next : ℕ} {o : Operator} {x : Outcome} (k : ℕ) (X : Complex) → (X k).n ≤ 96 → make_at s (suc k) at ≡ OperatorForm.Decoded o next →
+cell-text : {s : List ℕ} {at next : ℕ} {o : Operator} {x : Outcome} (k : ℕ) (X : Complex) → (X k).n ≤ 96 → make_at s (suc k) at ≡ Ok (o, next) →
     GivenFaces (suc k) (made_of s (suc k) at) → MakeTests (suc k) (made_of s (suc k) at) X x → Text s at (write_cell (suc k) (chain_of (made_of s (suc k) at))) next
 unfolding write_cell each_face one_face
 cell-text zero X few e g m = seam_text_lem X few e (g.seam refl) m

@@ -1,4 +1,5 @@
 -- A list of faces as it was written is read: each entry in form, and the chain that they are.
+use Rattle.std.specs.Prelude.{Ok, Err}
 use mathlib.Core.Path.{◌≡◌, refl, sym}
 use mathlib.Core.Logic.{◌≢◌}
 use mathlib.Core.Bool.{true, false, not, cond}
@@ -14,10 +15,8 @@ use Rattle.maths.proofs.Integers.{ints}
 use Rattle.maths.proofs.Cases.{bool_or, eq_or}
 use Rattle.maths.proofs.Tests.{by_sign, zero-true, zero-false}
 use Rattle.maths.proofs.Sums.{sum-suc, δ_same, δ_no}
-use Rattle.rules.specs.declared.form.Field.{Field}
-use Rattle.rules.specs.declared.form.EntryForm.{EntryForm}
 use Rattle.rules.specs.Complex.{Chain}
-use Rattle.rules.specs.Form.{after_entry, entry_at, sign_of}
+use Rattle.rules.specs.Form.{after_entry, entry_at, sign_of, Field}
 use Rattle.rules.specs.Mesh.{pair}
 use Rattle.rules.proofs.Bytes.Fields.{byte_got}
 use Rattle.rules.proofs.Bytes.Listed.{IsSign}
@@ -40,7 +39,7 @@ sign_at s at l = get_or s (at + 2 + 2 * l) 0
 
 -- an entry, as a loop over entries reads it: the place and the least number
 abbrev read_entry : List ℕ → ℕ × ℕ → (ℕ × ℕ → Field) → Field
-read_entry s x go = after_entry (entry_at true s x.0 x.1) Field.Bad λ low next. go (next, low)
+read_entry s x go = after_entry (entry_at true s x.0 x.1) Err λ low next. go (next, low)
 
 -- the coefficient of face i that the first n entries of the list at `at` have
 abbrev listed_at : List ℕ → ℕ → ℕ → ℕ → ℤ
@@ -70,7 +69,7 @@ sign_of_lem =
     (λ n. record { form = (omega arith, omega arith); is = refl })
 
 module _ {s : List ℕ} where
-  entry_read : {at next x b : ℕ} {z : ℤ} (low : ℕ) → Two s at x b next → Sign z b → low ≤ x → x ≤ 255 → entry_at true s at low ≡ EntryForm.Entry (x + 1) next
+  entry_read : {at next x b : ℕ} {z : ℤ} (low : ℕ) → Two s at x b next → Sign z b → low ≤ x → x ≤ 255 → entry_at true s at low ≡ Ok (x + 1, next)
   unfolding entry_at
   entry_read {at} {next} {x} {b} low t g l m =
       rw (

@@ -38,27 +38,22 @@ flip-requires c =
     let form = rw c.in-Flip.is at (shaped source) in
     record { dimension = form; held = held }
 
-pub returns-in-Make : goal.returns-in-Make
+pub returns-in-Make-clause-does : goal.returns-in-Make-clause-does
 unfolding step
-returns-in-Make c =
-    rw c.in-Make.is c.make.ensures
+returns-in-Make-clause-does c = rw c.in-Make.is c.make.ensures.does
 
-pub returns-in-Kill : goal.returns-in-Kill
+pub returns-in-Kill-clause-does : goal.returns-in-Kill-clause-does
 unfolding step
-returns-in-Kill c =
-    rw c.in-Kill.is c.kill.ensures
+returns-in-Kill-clause-does c = rw c.in-Kill.is c.kill.ensures.does
 
-pub returns-in-Split : goal.returns-in-Split
+pub returns-in-Split-clause-does : goal.returns-in-Split-clause-does
 unfolding step
-returns-in-Split c =
-    rw c.in-Split.is c.split.ensures
+returns-in-Split-clause-does c = rw c.in-Split.is c.split.ensures.does
 
-pub returns-in-Merge : goal.returns-in-Merge
+pub returns-in-Merge-clause-does : goal.returns-in-Merge-clause-does
 unfolding step
-returns-in-Merge c =
-    rw c.in-Merge.is c.merge.ensures
+returns-in-Merge-clause-does c = rw c.in-Merge.is c.merge.ensures.does
 
-pub returns-in-Flip : goal.returns-in-Flip
+pub returns-in-Flip-clause-does : goal.returns-in-Flip-clause-does
 unfolding step
-returns-in-Flip c =
-    rw c.in-Flip.is c.flip.ensures
+returns-in-Flip-clause-does c = rw c.in-Flip.is c.flip.ensures.does

@@ -2,12 +2,5 @@
 use Rattle.engine.proofs.Trials.{applied-number}
 use Rattle.engine.proofs.carry.refusal_of_trial.Goals as goal
 
-pub apply-done-requires : goal.apply-done-requires
-apply-done-requires c =
-    let held = c.requires.held in
-    let source = c.requires.read_from in
-    record { held = rw (c.copy_all.ensures, c.copy_all-2.ensures, c.copy_all-3.ensures) held; read_from = source }
-
 pub returns : goal.returns
-returns c =
-    applied-number _ _ (rw (c.copy_all.ensures, c.copy_all-2.ensures, c.copy_all-3.ensures) at c.apply-done.ensures)
+returns c = applied-number _ _ (rw (c.copy_from_slice.ensures.after, c.copy_from_slice-2.ensures.after, c.copy_from_slice-3.ensures.after) at c.apply.ensures.does)

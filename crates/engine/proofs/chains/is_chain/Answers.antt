@@ -1,29 +1,22 @@
--- `engine::chains::is_chain` meets its contract: every coefficient so far passed, and the first that does not ends the loop.
-use mathlib.Core.Path.{sym, ◌∙◌}
-use native.Mathlib.Omega.{arith}
-use mir.Syntax.{w32}
-use Rattle.maths.proofs.Sizes.{back}
+-- `engine::chains::is_chain` meets its contract: the closure tests each coefficient as the definition does.
+use mathlib.Core.Bool.{cond}
+use mathlib.Core.Path.{◌∙◌}
+use Prim.Native.Nat.{ℕ}
+use lib.Dec.{ltb, leb}
+use lib.IntN.{ℤ, nat_abs}
+use borrow.Author.Rules.{rules}
+use Rattle.std.proofs.lemmas.Iterator.{YieldsList-from_slice}
+use Rattle.std.proofs.lemmas.Iterator.Consumers.{YieldsList-from_enumerate}
+use Rattle.std.proofs.lemmas.Iterator.Search.{all_from_yields_List}
+use Rattle.maths.specs.Tests.{eq_z, is_zero}
 use Rattle.rules.specs.Chains.{is_chain}
-use Rattle.grid.proofs.Joined.{passed_none, passed_more, passed_not, passed_all}
+use Rattle.engine.proofs.Listed.{tested-each}
 use Rattle.engine.proofs.chains.is_chain.Goals as goal
 
-pub loop-i-init : goal.loop-i-init
-loop-i-init c = passed_none _ _
-
-pub returns-then-not-is_coefficient : goal.returns-then-not-is_coefficient
-unfolding is_chain
-returns-then-not-is_coefficient c =
-    let told = rw (back w32 c.is_coefficient-arg-1.given) at c.is_coefficient.ensures in
-    passed_not c.loop-i.invariant (omega arith) (sym told ∙ c.if-not-is_coefficient.true)
-
-pub loop-i-preserved : goal.loop-i-preserved
-loop-i-preserved c =
-    let told = rw (back w32 c.is_coefficient-arg-1.given) at c.is_coefficient.ensures in
-    passed_more c.loop-i.invariant (omega arith) (sym told ∙ c.if-not-is_coefficient.false)
-
 pub returns : goal.returns
-unfolding is_chain
-returns c = passed_all c.loop-i.invariant (omega arith)
-
-pub is_coefficient-requires : goal.is_coefficient-requires
-is_coefficient-requires c = tt
+unfolding is_chain is_zero eq_z
+returns c =
+    let a = c.args in
+    all_from_yields_List (λ (x : ℕ × ℤ). cond (ltb x.0 a.n) (leb (nat_abs x.1) a.limit) (is_zero x.1)) _ _ _ c.all.ensures.ran
+    (YieldsList-from_enumerate (YieldsList-from_slice a.chain.now cc) c.enumerate.ensures.count) (λ x b q k. search rules)
+    ∙ tested-each (λ i z. cond (ltb i a.n) (leb (nat_abs z) a.limit) (is_zero z)) a.chain.now c.requires

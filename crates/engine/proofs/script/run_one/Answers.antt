@@ -1,38 +1,27 @@
 -- `engine::script::run_one` meets its contract: the bytes are not in form, or the operator is applied.
-use mathlib.Core.Path.{sym, ◌∙◌}
-use native.Mathlib.Omega.{arith}
-use Rattle.rules.specs.Lending.{as_lent}
-use Rattle.engine.proofs.Runs.{turn_faulty, turn_place, source, turn_done}
+use mathlib.Core.Path.{sym}
+use Rattle.rules.specs.Lending.{lent_by}
+use Rattle.rules.proofs.Branches.Refused.{handed_on}
+use Rattle.engine.proofs.Runs.{turn_faulty, source, turn_done, turn_refused}
 use Rattle.engine.proofs.script.run_one.Goals as goal
 
-pub apply-done-requires : goal.apply-done-requires
-apply-done-requires c =
-    let entry = as_lent c.args.c c.args.m1.now c.args.m2.now c.args.m3.now in
+pub returns-in_err-o-clause-does : goal.returns-in_err-o-clause-does
+returns-in_err-o-clause-does c =
     let a = c.args in
-    let held = c.requires.held in
-    record {
-      held = held;
-      read_from = source a.s.now a.at entry held (sym c.read_operator.ensures ∙ c.in-Decoded.is);
-    }
+    rw (handed_on c.from_residual.ensures) (turn_faulty a.s.now a.at (lent_by a.p.now) c.requires (sym c.in_err-o.ensures))
 
-pub overflow_cast-result : goal.overflow_cast-result
-overflow_cast-result c =
-    let entry = as_lent c.args.c c.args.m1.now c.args.m2.now c.args.m3.now in
+pub apply-requires-clause-read_from : goal.apply-requires-clause-read_from
+apply-requires-clause-read_from c =
     let a = c.args in
-    let held = c.requires.held in
-    let short = c.requires.s_len_bound in
-    omega (arith, c.place_of.ensures, turn_place a.s.now a.at entry held short (sym c.read_operator.ensures ∙ c.in-Bad.is))
+    source a.s.now a.at (lent_by a.p.now) c.requires (sym c.in_ok-o.ensures)
 
-pub returns-in-Bad : goal.returns-in-Bad
-returns-in-Bad c =
-    let entry = as_lent c.args.c c.args.m1.now c.args.m2.now c.args.m3.now in
+pub returns-in_err-apply-clause-does : goal.returns-in_err-apply-clause-does
+returns-in_err-apply-clause-does c =
     let a = c.args in
-    let held = c.requires.held in
-    turn_faulty a.s.now a.at entry held (sym c.read_operator.ensures ∙ c.in-Bad.is) c.refusal_of.ensures c.place_of.ensures
+    rw (handed_on c.from_residual-in_err-apply.ensures)
+    (turn_refused a.s.now a.at (lent_by a.p.now) c.requires (sym c.in_ok-o.ensures) _ c.in_err-apply.ensures.does)
 
-pub returns-in-Decoded : goal.returns-in-Decoded
-returns-in-Decoded c =
-    let entry = as_lent c.args.c c.args.m1.now c.args.m2.now c.args.m3.now in
+pub returns-clause-does : goal.returns-clause-does
+returns-clause-does c =
     let a = c.args in
-    let held = c.requires.held in
-    turn_done a.s.now a.at entry held (sym c.read_operator.ensures ∙ c.in-Decoded.is) c.apply-done.ensures
+    turn_done a.s.now a.at (lent_by a.p.now) c.requires (sym c.in_ok-o.ensures) c.in_ok-apply.ensures.does

@@ -1,11 +1,7 @@
--- `engine::script::run_operators` turns as `repeat` does: what is left to run, from the pattern and place that it holds, is always the whole.
-use Rattle.rules.specs.Complex.{pattern}
+-- `engine::script::run_operators` turns as `repeat` does: what is left to run, from what is reached, is always the whole.
+use Rattle.rules.specs.Lending.{lent_by, SameLoans}
 use Rattle.engine.proofs.Runs.{OperatorsLeft}
 use Rattle.engine.proofs.script.run_operators.Given as goal
 
-abbrev pub invariant-loop-left : goal.invariant-loop-left
-invariant-loop-left l =
-    OperatorsLeft l.s l.n (pattern l.initial.counts l.initial.m1 l.initial.m2 l.initial.m3) l.left l.place (pattern l.counts l.m1 l.m2 l.m3)
-
-abbrev pub decreases-loop-left : goal.decreases-loop-left
-decreases-loop-left l = l.left
+abbrev pub invariant-loop-ran : goal.invariant-loop-ran
+invariant-loop-ran l = OperatorsLeft l.s l.n (lent_by l.fn.p) l.ran l.next (lent_by l.p) × SameLoans l.fn.p l.p

@@ -1,23 +1,27 @@
--- `good::columns::faces` meets its contract: every column passed so far has a face, and the first that has none ends the loop.
-use mathlib.Core.Path.{sym, ap, ◌∙◌}
+-- `good::columns::faces` meets its contract: `all` tests each column in use.
+use Rattle.std.proofs.Common.{rules, ◌∙◌, arith}
+use Rattle.std.proofs.lemmas.Iterator.{YieldsList-from_range}
+use Rattle.std.proofs.lemmas.Iterator.Search.{all_from_yields_List}
+use mathlib.Core.Path.{ap}
 use mathlib.Core.Bool.{not}
-use native.Mathlib.Omega.{arith}
-use Rattle.grid.proofs.Joined.{passed_none, passed_more, passed_not, passed_all}
+use Rattle.maths.specs.Tests.{is_zero, all}
+use Rattle.maths.proofs.Tests.{all_same}
+use Rattle.grid.specs.Grid.{cut, nth}
 use Rattle.good.proofs.Places.{zero-column}
+use Rattle.grid.proofs.Cuts.{in_use}
+use Rattle.std.proofs.lemmas.Iterator.{serves_from_Range}
+use Rattle.good.proofs.Ranges.{all_range}
 use Rattle.good.proofs.columns.faces.Goals as goal
 
-pub loop-j-init : goal.loop-j-init
-loop-j-init c = passed_none _ _
-
-pub returns-then-are_zero : goal.returns-then-are_zero
-returns-then-are_zero c =
-    let e = c.are_zero.ensures ∙ zero-column c.args.m.now c.loop-j.j (omega arith) in
-    passed_not c.loop-j.invariant (omega arith) (ap not (sym e ∙ c.if-are_zero.true))
-
-pub loop-j-preserved : goal.loop-j-preserved
-loop-j-preserved c =
-    let e = c.are_zero.ensures ∙ zero-column c.args.m.now c.loop-j.j (omega arith) in
-    passed_more c.loop-j.invariant (omega arith) (ap not (sym e ∙ c.if-are_zero.false))
+pub all-requires-clause-callable : goal.all-requires-clause-callable
+all-requires-clause-callable c = serves_from_Range (λ x q k. search rules) (λ x l h.
+    let line = in_use x c.requires (omega arith) in
+    search (rules, line))
 
 pub returns : goal.returns
-returns c = passed_all c.loop-j.invariant (omega arith)
+returns c =
+    let a = c.args in
+    all_from_yields_List (λ j. not (all 96 (λ i. is_zero (nth (cut j a.m.now) i)))) _ _ _ c.all.ensures.ran
+    (YieldsList-from_range 0 a.n a.n (cc) (omega arith)) (λ x b q k. (search rules, search rules))
+    ∙ all_range (λ j. not (all 96 (λ i. is_zero (nth (cut j a.m.now) i)))) a.n
+    ∙ all_same a.n (λ j h. ap not (zero-column a.m.now j (omega arith)))

@@ -4,4 +4,4 @@ use Rattle.good.proofs.columns.one_each.Goals as goal
 
 pub returns : goal.returns
 unfolding one_each
-returns c = rw (c.times_of.ensures, c.times_of-2.ensures)
+returns c = rw (c.times_of.ensures, c.times_of-2.ensures, c.requires)

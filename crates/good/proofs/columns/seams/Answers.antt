@@ -1,22 +1,25 @@
--- `good::columns::seams` meets its contract: every column passed so far has one of each, and the first that has not ends the loop.
-use mathlib.Core.Path.{sym, ◌∙◌}
-use native.Mathlib.Omega.{arith}
-use Rattle.grid.proofs.Joined.{passed_none, passed_more, passed_not, passed_all}
+-- `good::columns::seams` meets its contract: `all` tests each column in use.
+use Rattle.std.proofs.Common.{rules, ◌∙◌, arith}
+use Rattle.std.proofs.lemmas.Iterator.{YieldsList-from_range}
+use Rattle.std.proofs.lemmas.Iterator.Search.{all_from_yields_List}
+use Rattle.maths.proofs.Tests.{all_same}
+use Rattle.rules.specs.Good.{one_each}
+use Rattle.grid.specs.Grid.{cut, nth}
 use Rattle.good.proofs.Places.{one_each_column}
+use Rattle.grid.proofs.Cuts.{in_use}
+use Rattle.std.proofs.lemmas.Iterator.{serves_from_Range}
+use Rattle.good.proofs.Ranges.{all_range}
 use Rattle.good.proofs.columns.seams.Goals as goal
 
-pub loop-j-init : goal.loop-j-init
-loop-j-init c = passed_none _ _
-
-pub returns-then-not-one_each : goal.returns-then-not-one_each
-returns-then-not-one_each c =
-    let e = c.one_each.ensures ∙ one_each_column c.args.m.now c.loop-j.j (omega arith) in
-    passed_not c.loop-j.invariant (omega arith) (sym e ∙ c.if-not-one_each.true)
-
-pub loop-j-preserved : goal.loop-j-preserved
-loop-j-preserved c =
-    let e = c.one_each.ensures ∙ one_each_column c.args.m.now c.loop-j.j (omega arith) in
-    passed_more c.loop-j.invariant (omega arith) (sym e ∙ c.if-not-one_each.false)
+pub all-requires-clause-callable : goal.all-requires-clause-callable
+all-requires-clause-callable c = serves_from_Range (λ x q k. search rules) (λ x l h.
+    let line = in_use x c.requires (omega arith) in
+    search (rules, line))
 
 pub returns : goal.returns
-returns c = passed_all c.loop-j.invariant (omega arith)
+returns c =
+    let a = c.args in
+    all_from_yields_List (λ j. one_each (nth (cut j a.m.now))) _ _ _ c.all.ensures.ran
+    (YieldsList-from_range 0 a.n a.n (cc) (omega arith)) (λ x b q k. (search rules, search rules))
+    ∙ all_range (λ j. one_each (nth (cut j a.m.now))) a.n
+    ∙ all_same a.n (λ j h. one_each_column a.m.now j (omega arith))

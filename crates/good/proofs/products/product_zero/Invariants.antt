@@ -1,5 +1,4 @@
--- `good::products::product_zero` meets its contract: every column passed so far closes, and the first that does not ends the loop.
-use Prim.Native.Nat.{◌-◌}
+-- `good::products::product_zero` meets its contract: the columns so far have passed.
 use Rattle.maths.specs.Tables.{entries}
 use Rattle.rules.specs.Good.{closes}
 use Rattle.rules.specs.Complex.{layer}
@@ -8,6 +7,3 @@ use Rattle.good.proofs.products.product_zero.Given as goal
 
 abbrev pub invariant-loop-j : goal.invariant-loop-j
 invariant-loop-j l = Passed (λ j. closes 96 (layer l.between l.low) (λ i. entries l.high i j)) l.n l.j
-
-abbrev pub decreases-loop-j : goal.decreases-loop-j
-decreases-loop-j l = l.n - l.j

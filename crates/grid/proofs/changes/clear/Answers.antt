@@ -1,12 +1,12 @@
--- `grid::changes::clear` meets its contract: no column is below column 0, so all of them are cleared.
-use mathlib.Core.Path.{◌∙◌}
-use native.Mathlib.Omega.{arith}
-use borrow.Author.Tests.{le-ltb}
-use Rattle.maths.proofs.Cases.{cond-false}
-use Rattle.maths.proofs.Tables.{tab_same}
-use Rattle.grid.specs.Grid.{over, cleared_from}
+-- `grid::changes::clear` meets its contract: every place is filled.
+use mathlib.Core.Path.{◌≡◌, ◌∙◌}
+use Prim.Native.Nat.{◌+◌, ◌*◌}
+use lib.IntN.{pos}
+use lib.ListN.{length, replicate}
+use Rattle.grid.proofs.Written.{by_place, zeros}
 use Rattle.grid.proofs.changes.clear.Goals as goal
 
 pub returns : goal.returns
-unfolding over cleared_from
-returns c = c.clear_from.ensures ∙ tab_same (λ i j hi hj. cond-false _ _ (le-ltb j 0 (omega arith)))
+returns c =
+    let filled : c.fill.new.self ≡ replicate (length c.args.m.now) (pos 0) = c.fill.ensures.after (λ y e. e) in
+    by_place (c.fill.ensures.len ∙ c.requires) (λ i j hi hj. rw filled (zeros (length c.args.m.now) (96 * j + i)))

@@ -1,25 +1,27 @@
--- `grid::changes::clear_from` meets its contract: before the place p the matrix is cleared from column c on.
-use mathlib.Core.Path.{sym}
-use Prim.Native.Nat.{◌/◌}
+-- `grid::changes::clear_from` meets its contract: the places from column c on are filled.
+use mathlib.Core.Path.{◌≡◌, sym, ◌∙◌}
+use Prim.Native.Nat.{◌+◌, ◌-◌, ◌*◌}
 use native.Mathlib.Omega.{arith}
 use lib.IntN.{pos}
-use borrow.Author.Tests.{lt-ltb, le-ltb}
-use Rattle.maths.proofs.Cases.{cond-true, cond-false}
-use Rattle.maths.proofs.Sweep.{finish_all}
+use lib.ListN.{replicate}
+use lib.Dec.{ltb}
+use borrow.Author.Tests.{ltb-true, ltb-false}
+use Rattle.std.proofs.Common.{rules}
+use Rattle.std.proofs.lemmas.List.{places}
+use Rattle.maths.proofs.Cases.{is-cond}
+use Rattle.maths.proofs.Tables.{entries_in}
 use Rattle.grid.specs.Grid.{over, cleared_from}
-use Rattle.grid.proofs.Walks.{along_begin, along_store}
+use Rattle.grid.proofs.Written.{by_place, read_before, read_written, zeros}
 use Rattle.grid.proofs.changes.clear_from.Goals as goal
 
-pub loop-p-init : goal.loop-p-init
-unfolding cleared_from
-loop-p-init c = along_begin _ c.requires.size (omega arith) (λ i j hi h. sym (cond-true _ _ (lt-ltb j c.args.c (omega arith))))
-
-pub loop-p-preserved : goal.loop-p-preserved
-unfolding cleared_from
-loop-p-preserved c =
-    along_store c.loop-p.invariant (pos 0) (omega arith)
-    (sym (cond-false _ _ (le-ltb (c.loop-p.p / 96) c.args.c (omega arith))))
-
 pub returns : goal.returns
-unfolding over
-returns c = finish_all c.loop-p.invariant.part (omega arith)
+unfolding over cleared_from
+returns c =
+    let x = c.args in
+    let at = 96 * x.c in
+    let filled : c.fill.new.self ≡ replicate (9216 - at) (pos 0) = search rules in
+    by_place (search (rules, places)) (λ i j hi hj. is-cond (ltb j x.c)
+    (λ q. read_before at _ x.m.now _ (96 * j + i) (omega arith) (omega (arith, ltb-true j x.c q)) ∙ sym (entries_in x.m.now i j hi hj))
+    (λ q.
+    read_written at _ x.m.now _ (96 * j + i - at) (96 * j + i) (omega arith) (omega arith) (omega (arith, ltb-false j x.c q))
+    ∙ rw filled (zeros (9216 - at) (96 * j + i - at))))

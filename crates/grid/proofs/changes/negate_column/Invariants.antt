@@ -1,12 +1,8 @@
--- `grid::changes::negate_column` meets its contract: the rows below i of column c are negated.
-use Prim.Native.Nat.{◌-◌}
-use lib.IntN.{neg_ℤ}
+-- `grid::changes::negate_column` meets its contract: the first entries of the column are negated.
+use lib.IntN.{pos, neg_ℤ}
 use Rattle.maths.specs.Tables.{entries}
-use Rattle.grid.proofs.Walks.{Down}
+use Rattle.maths.proofs.Sweep.{Filled}
 use Rattle.grid.proofs.changes.negate_column.Given as goal
 
-abbrev pub invariant-loop-i : goal.invariant-loop-i
-invariant-loop-i l = Down l.c l.i (λ i. neg_ℤ (entries l.initial.m i l.c)) (entries l.initial.m) l.m
-
-abbrev pub decreases-loop-i : goal.decreases-loop-i
-decreases-loop-i l = 96 - l.i
+abbrev pub invariant-loop-x : goal.invariant-loop-x
+invariant-loop-x l = Filled (pos 0) (λ k. neg_ℤ (entries l.fn.m k l.c)) l.initial.x-items l.x-items l.x-index

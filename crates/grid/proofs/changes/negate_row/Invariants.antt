@@ -1,5 +1,4 @@
 -- `grid::changes::negate_row` meets its contract: row r is negated before the place p.
-use Prim.Native.Nat.{◌-◌}
 use lib.IntN.{neg_ℤ}
 use Rattle.maths.specs.Tables.{entries}
 use Rattle.grid.proofs.Walks.{Across}
@@ -7,6 +6,3 @@ use Rattle.grid.proofs.changes.negate_row.Given as goal
 
 abbrev pub invariant-loop-p : goal.invariant-loop-p
 invariant-loop-p l = Across l.r l.p (λ j. neg_ℤ (entries l.initial.m l.r j)) (entries l.initial.m) l.m
-
-abbrev pub decreases-loop-p : goal.decreases-loop-p
-decreases-loop-p l = 9216 - l.p

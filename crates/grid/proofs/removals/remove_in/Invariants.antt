@@ -1,6 +1,6 @@
 -- `grid::removals::remove_in` meets its contract: in column c the rows from r up to i are the next ones, and past the last is nothing.
 use mathlib.Core.List.{List}
-use Prim.Native.Nat.{ℕ, ◌-◌, ◌≤◌}
+use Prim.Native.Nat.{ℕ, ◌≤◌}
 use lib.IntN.{ℤ}
 use Rattle.maths.specs.Tables.{entries}
 use Rattle.maths.specs.Sums.{up}
@@ -15,6 +15,3 @@ pub record Closing (c r i : ℕ) (m₀ m : List ℤ) : Type 0 where
 
 abbrev pub invariant-loop-i : goal.invariant-loop-i
 invariant-loop-i l = Closing l.c l.r l.i l.initial.m l.m
-
-abbrev pub decreases-loop-i : goal.decreases-loop-i
-decreases-loop-i l = 95 - l.i

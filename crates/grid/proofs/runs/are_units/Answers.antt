@@ -1,20 +1,10 @@
--- `grid::runs::are_units` meets its contract: after i turns `ok` is the test of the first i bytes.
-use native.Mathlib.Omega.{arith}
-use mir.Syntax.{w8}
-use Rattle.maths.proofs.Sizes.{back}
-use Rattle.grid.proofs.Joined.{joined_none, joined_more, joined_all}
+-- `grid::runs::are_units` meets its contract: the fold joins the tests of the bytes.
+use Rattle.std.proofs.Common.{rules}
+use Rattle.maths.specs.Tests.{is_unit}
+use Rattle.grid.proofs.Chains.{fold_tests}
 use Rattle.grid.proofs.runs.are_units.Goals as goal
 
-pub loop-i-init : goal.loop-i-init
-loop-i-init c = joined_none _ _
-
-pub loop-i-preserved : goal.loop-i-preserved
-loop-i-preserved c =
-    let e = rw (back w8 c.is_unit8-arg-1.given) at c.is_unit8-ok.ensures in
-    joined_more c.loop-i.invariant (omega arith) e
-
 pub returns : goal.returns
-returns c = joined_all c.loop-i.invariant (omega arith)
-
-pub is_unit8-ok-requires : goal.is_unit8-ok-requires
-is_unit8-ok-requires c = tt
+unfolding is_unit
+returns c =
+    fold_tests is_unit _ _ (λ ok x b f' k. (search rules, search rules)) _ _ _ c.iter.ensures.rest c.fold.ensures.ran

@@ -1,33 +1,22 @@
--- `grid::runs::times_of` meets its contract: after i turns `found` is the count of the first i bytes, so it is at most i.
-use mathlib.Core.Path.{◌≡◌, sym}
-use native.Mathlib.Omega.{arith}
-use mir.Syntax.{w8}
-use mir.Facts.{to_z-of_z}
-use borrow.Author.Rules.{rules}
-use Rattle.maths.proofs.Tests.{count_none}
-use Rattle.maths.proofs.Sizes.{back}
-use Rattle.grid.specs.Grid.{run}
-use Rattle.grid.proofs.Joined.{count_turn, count_fits}
+-- `grid::runs::times_of` meets its contract: the sum is of a 1 for each byte that is z, of at most 255 bytes, so it fits.
+use Rattle.std.proofs.Common.{rules, ◌∙◌, ℤ, ℕ, cond, arith}
+use Rattle.std.proofs.lemmas.Iterator.{YieldsList-from_slice, YieldsList-from_map}
+use Rattle.std.proofs.lemmas.Iterator.Adapters.{fits_from_length, at_most_from_yields_List}
+use Rattle.std.proofs.lemmas.Iterator.Consumers.{sum_by_from_yields_List}
+use Rattle.maths.specs.Tests.{eq_z}
+use Rattle.grid.proofs.Chains.{count_run}
 use Rattle.grid.proofs.runs.times_of.Goals as goal
 
-pub loop-i-init : goal.loop-i-init
-loop-i-init c = (omega arith, sym (count_none _))
-
-pub overflow_cast-found : goal.overflow_cast-found
-overflow_cast-found c = search rules
-
-pub overflow_add-found : goal.overflow_add-found
-overflow_add-found c = count_fits c.loop-i.i _ c.loop-i.invariant.1 c.eq8.result (omega arith)
-
-pub loop-i-preserved : goal.loop-i-preserved
-loop-i-preserved c =
-    let byte = back w8 {z = run c.args.m.now c.args.from c.loop-i.i} c.eq8-arg-1.given in
-    (omega arith, count_turn c.loop-i.i _ c.loop-i.invariant.1 (rw byte at c.eq8.ensures))
+pub sum-requires-clause-fits : goal.sum-requires-clause-fits
+sum-requires-clause-fits c =
+    let x = c.args in
+    fits_from_length _ _ 255 256 (at_most_from_yields_List (YieldsList-from_slice x.run.now cc) (omega arith)) c.map.ensures.closure (omega arith) (λ x r q k. (search rules, search rules))
 
 pub returns : goal.returns
+unfolding eq_z
 returns c =
-    let e : c.loop-i.i ≡ 96 = omega arith in
-    rw (to_z-of_z c.ranges.z) at (rw e at c.loop-i.invariant.1)
-
-pub eq8-requires : goal.eq8-requires
-eq8-requires c = tt
+    let one : ℤ → ℕ = λ x. cond (eq_z x c.args.z) 1 0 in
+    let x = c.args in
+    sum_by_from_yields_List one x.run.now c.map.result _ c.sum.ensures.ran
+    (YieldsList-from_map {s = c.map.result} _ one (YieldsList-from_slice _ cc) c.map.ensures.closure (λ x r q k. (search rules, search rules)))
+    ∙ count_run (λ x. eq_z x c.args.z) x.run.now

@@ -1,38 +1,23 @@
--- `grid::tests::row_zero` meets its contract: the entries of row r before the place p are 0.
-use mathlib.Core.Path.{◌≡◌, sym, ap, ◌∙◌}
-use Prim.Native.Nat.{◌+◌, ◌/◌}
-use native.Mathlib.Omega.{arith}
-use mir.Syntax.{w8}
-use Rattle.maths.specs.Tests.{is_zero}
-use Rattle.maths.specs.Tables.{entries}
-use Rattle.maths.proofs.Sizes.{back}
-use Rattle.maths.proofs.Tests.{all_none, all_more, all-not}
-use Rattle.grid.proofs.Readings.{row_entry}
+-- `grid::tests::row_zero` meets its contract: entry r of each column is tested.
+use mathlib.Core.Path.{refl, sym, ap, ◌∙◌}
+use mathlib.Core.Bool.{Bool}
+use Prim.Native.Nat.{ℕ, ◌+◌, ◌*◌}
+use lib.IntN.{pos}
+use lib.ListN.{get_or}
+use borrow.Author.Rules.{rules}
+use Rattle.std.proofs.lemmas.Iterator.{YieldsList-from_range}
+use Rattle.std.proofs.lemmas.Iterator.Search.{all_from_yields_List}
+use Rattle.maths.specs.Tests.{eq_z, is_zero}
+use Rattle.maths.proofs.Tables.{entries_in}
+use Rattle.maths.proofs.Tests.{all_same}
+use Rattle.grid.proofs.Chains.{all_numbers}
 use Rattle.grid.proofs.tests.row_zero.Goals as goal
-use Rattle.grid.proofs.tests.row_zero.Goals.{After-is_zero8}
-
--- what this turn tests
-told : (c : After-is_zero8) → let x = c.args in
-    c.is_zero8.result ≡ is_zero (entries x.m.now x.r (c.loop-p.p / 96))
-told c = c.is_zero8.ensures ∙ ap is_zero (back w8 c.is_zero8-arg-1.given ∙ row_entry _ _ _ (omega arith) (omega arith))
-
-pub loop-p-init : goal.loop-p-init
-loop-p-init c =
-    let e : c.args.r / 96 ≡ 0 = omega arith in
-    record { on = omega arith; upto = omega arith; passed = rw e (all_none _) }
-
-pub returns-then-not-is_zero8 : goal.returns-then-not-is_zero8
-returns-then-not-is_zero8 c =
-    sym (all-not 96 _ (c.loop-p.p / 96) (omega arith) (sym (told (goal.at.returns-then-not-is_zero8 c).After-is_zero8) ∙ c.if-not-is_zero8.true))
-
-pub loop-p-preserved : goal.loop-p-preserved
-loop-p-preserved c =
-    let e : (c.loop-p.p + 96) / 96 ≡ c.loop-p.p / 96 + 1 = omega arith in
-    record {
-      on = omega arith;
-      upto = omega arith;
-      passed = rw e (all_more _ _ c.loop-p.invariant.passed (sym (told (goal.at.loop-p-preserved c).After-is_zero8) ∙ c.if-not-is_zero8.false));
-    }
 
 pub returns : goal.returns
-returns c = let e : c.loop-p.p / 96 ≡ 96 = omega arith in sym (rw e at c.loop-p.invariant.passed)
+unfolding is_zero eq_z
+returns c =
+    let x = c.args in
+    let p : ℕ → Bool = λ j. is_zero (get_or x.m.now (96 * j + x.r) (pos 0)) in
+    all_from_yields_List p _ _ c.all.result c.all.ensures.ran (YieldsList-from_range 0 96 96 refl refl) (λ j b q k. (search rules, search rules))
+    ∙ all_numbers p 96
+    ∙ all_same 96 (λ j l. ap is_zero (sym (entries_in x.m.now x.r j c.requires.inside l)))

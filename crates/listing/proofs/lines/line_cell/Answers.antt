@@ -7,5 +7,6 @@ use Rattle.listing.proofs.lines.line_cell.Goals as goal
 pub returns : goal.returns
 unfolding cell_line
 returns c =
+    let number = rw c.into.ensures at c.put_labelled-next.ensures.put in
     let last = two_pieces c.put_faces-next.ensures.put c.put.ensures in
-    record { put = two_pieces c.put-next.ensures (two_pieces c.put_field-next.ensures.put last); most = omega arith }
+    record { put = two_pieces c.put-next.ensures (two_pieces number last); most = omega arith }

@@ -1,5 +1,4 @@
 -- `listing::pieces::put_cells` meets its contract: the lines of the cells below j are put, each in at most 400 bytes.
-use Prim.Native.Nat.{◌-◌}
 use mathlib.Core.List.{[], ◌∷◌}
 use Rattle.rules.specs.Printed.{cell_line}
 use Rattle.listing.proofs.Columns.{Begun}
@@ -7,6 +6,3 @@ use Rattle.listing.proofs.pieces.put_cells.Given as goal
 
 abbrev pub invariant-loop-j : goal.invariant-loop-j
 invariant-loop-j l = Begun (cell_line (l.letter ∷ [])) 400 l.m l.n l.initial.out l.initial.next l.j l.next l.out
-
-abbrev pub decreases-loop-j : goal.decreases-loop-j
-decreases-loop-j l = l.n - l.j

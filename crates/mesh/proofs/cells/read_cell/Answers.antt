@@ -1,26 +1,27 @@
 -- `mesh::cells::read_cell` meets its contract: the bytes are not in form, or make judges the cell.
-use mathlib.Core.Path.{sym, ◌∙◌}
-use Rattle.rules.specs.Lending.{as_lent}
-use Rattle.mesh.proofs.Parts.{faulted, cell-faulty, cell-form, cell_went}
+use mathlib.Core.Path.{sym}
+use Rattle.rules.proofs.Branches.Refused.{handed_on}
+use Rattle.rules.specs.Lending.{lent_by}
+use Rattle.mesh.proofs.Parts.{faulted, cell-faulty, cell-form, cell_taken, cell_refused}
 use Rattle.mesh.proofs.cells.read_cell.Goals as goal
 
-pub make-made-requires : goal.make-made-requires
-make-made-requires c =
+pub returns-in_err-next-clause-does : goal.returns-in_err-next-clause-does
+returns-in_err-next-clause-does c =
     let a = c.args in
-    record {
-      held = c.requires.held;
-      make_form = cell-form a.s.now a.k a.at (as_lent a.c a.m1.now a.m2.now a.m3.now) c.requires (sym c.make_form.ensures ∙ c.in-Decoded.is);
-    }
+    rw (handed_on c.from_residual.ensures) (faulted _ c.requires.held (cell-faulty a.s.now a.k a.at (lent_by a.p.now) (sym c.in_err-next.ensures)))
 
-pub returns-in-Bad : goal.returns-in-Bad
-returns-in-Bad c =
-    let entry = as_lent c.args.c c.args.m1.now c.args.m2.now c.args.m3.now in
+pub make-requires-clause-make_form : goal.make-requires-clause-make_form
+make-requires-clause-make_form c =
     let a = c.args in
-    faulted _ c.requires.held c.faulty.ensures
-    (cell-faulty a.s.now a.k a.at entry (sym c.make_form.ensures ∙ c.in-Bad.is))
+    cell-form a.s.now a.k a.at (lent_by a.p.now) c.requires (sym c.in_ok-next.ensures)
 
-pub returns-in-Decoded : goal.returns-in-Decoded
-returns-in-Decoded c =
-    let entry = as_lent c.args.c c.args.m1.now c.args.m2.now c.args.m3.now in
+pub returns-in_err-make-clause-does : goal.returns-in_err-make-clause-does
+returns-in_err-make-clause-does c =
     let a = c.args in
-    cell_went a.s.now a.k a.at entry c.requires (sym c.make_form.ensures ∙ c.in-Decoded.is) c.make-made.ensures
+    rw (handed_on c.from_residual-in_err-make.ensures)
+    (cell_refused a.s.now a.k a.at (lent_by a.p.now) c.requires (sym c.in_ok-next.ensures) c.in_err-make.ensures.does)
+
+pub returns-clause-does : goal.returns-clause-does
+returns-clause-does c =
+    let a = c.args in
+    cell_taken a.s.now a.k a.at (lent_by a.p.now) c.requires (sym c.in_ok-next.ensures) c.in_ok-make.ensures.does

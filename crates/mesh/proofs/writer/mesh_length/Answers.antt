@@ -1,8 +1,8 @@
 -- `mesh::writer::mesh_length` meets its contract: a mesh is the corner count and three sections.
+use Rattle.rules.specs.Lending.{seen_by}
 use Prim.Native.Nat.{◌+◌, ◌<◌}
 use native.Mathlib.Omega.{arith}
 use lib.ListN.{get_or}
-use Rattle.rules.specs.Lending.{as_lent}
 use Rattle.mesh.proofs.Sections.{mesh-size, seam_columns, panel-columns, block_columns, section_most}
 use Rattle.mesh.proofs.writer.mesh_length.Goals as goal
 use Rattle.mesh.proofs.writer.mesh_length.Goals.{After-section_length-blocks}
@@ -13,13 +13,13 @@ small : (c : After-section_length-blocks) →
 small c =
     omega (
       arith,
-      section_most 1 c.args.m1.now (get_or c.args.c.n 1 0) (c.requires.good.few 1),
-      section_most 2 c.args.m2.now (get_or c.args.c.n 2 0) (c.requires.good.few 2),
-      section_most 3 c.args.m3.now (get_or c.args.c.n 3 0) (c.requires.good.few 3),
+      section_most 1 c.args.p.m1.now (get_or c.args.p.counts.n 1 0) (c.requires.good.few 1),
+      section_most 2 c.args.p.m2.now (get_or c.args.p.counts.n 2 0) (c.requires.good.few 2),
+      section_most 3 c.args.p.m3.now (get_or c.args.p.counts.n 3 0) (c.requires.good.few 3),
     )
 
 pub returns : goal.returns
-returns c = omega (arith, mesh-size (let a = c.args in as_lent a.c a.m1.now a.m2.now a.m3.now))
+returns c = omega (arith, mesh-size (seen_by c.args.p))
 
 pub section_length-seams-requires : goal.section_length-seams-requires
 section_length-seams-requires c = seam_columns c.requires

@@ -1,5 +1,4 @@
 -- `mesh::writer::put_pairs` meets its contract: the faces below i are put.
-use Prim.Native.Nat.{◌-◌}
 use Rattle.maths.specs.Tables.{entries}
 use Rattle.maths.proofs.Buffers.{Pieces}
 use Rattle.rules.specs.Mesh.{pair, one_face}
@@ -7,6 +6,3 @@ use Rattle.mesh.proofs.writer.put_pairs.Given as goal
 
 abbrev pub invariant-loop-i : goal.invariant-loop-i
 invariant-loop-i l = Pieces (λ i. one_face pair i (entries l.m i l.j)) 96 l.i l.initial.out l.at l.next l.out
-
-abbrev pub decreases-loop-i : goal.decreases-loop-i
-decreases-loop-i l = 96 - l.i

@@ -12,7 +12,3 @@ overflow_cast-tail c =
 pub overflow_cast-head : goal.overflow_cast-head
 overflow_cast-head c =
     omega (arith, c.column_last-head.ensures, face_most (pos 1) (column c.args.m.now c.args.j))
-
-pub returns : goal.returns
-returns c =
-    rw (← c.column_last-tail.ensures, ← c.column_last-head.ensures) c.put_two.ensures

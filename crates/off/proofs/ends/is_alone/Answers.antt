@@ -1,23 +1,24 @@
--- `off::ends::is_alone` meets its contract: every seam before i has other ends than seam j, and the first that has the same ends the loop.
-use mathlib.Core.Path.{sym, ap, ◌∙◌}
+-- `off::ends::is_alone` meets its contract: every seam before seam j has other ends.
+use mathlib.Core.Path.{◌≡◌, sym, ◌∙◌}
 use mathlib.Core.Bool.{not}
 use native.Mathlib.Omega.{arith}
-use Rattle.grid.proofs.Joined.{passed_none, passed_more, passed_not, passed_all}
+use lib.ListN.{take}
+use borrow.Author.Rules.{rules}
+use Rattle.std.specs.List.{list_all}
+use Rattle.std.proofs.Common.{tests}
+use Rattle.std.proofs.lemmas.Iterator.{YieldsList-from_slice}
+use Rattle.std.proofs.lemmas.Iterator.Search.{all_from_yields_List}
+use Rattle.off.specs.Walking.{seam_at, same_ends}
+use Rattle.off.proofs.ends.FrontAll.{front_all}
 use Rattle.off.proofs.ends.SameEnds.{alone_is}
 use Rattle.off.proofs.ends.is_alone.Goals as goal
+use Rattle.off.proofs.ends.is_alone.Goals.{After-all}
 
-pub returns-then-same_ends : goal.returns-then-same_ends
-returns-then-same_ends c =
-    passed_not c.loop-i.invariant (omega arith) (ap not (sym c.same_ends.ensures ∙ c.if-same_ends.true)) ∙ sym (alone_is _ _)
-
-pub loop-i-preserved : goal.loop-i-preserved
-loop-i-preserved c = passed_more c.loop-i.invariant (omega arith) (ap not (sym c.same_ends.ensures ∙ c.if-same_ends.false))
+tested : (c : After-all) → let a = c.args in
+    c.all.result ≡ list_all (λ other. not (same_ends other (seam_at a.ends.now a.j))) (take a.j a.ends.now)
+tested c =
+    all_from_yields_List _ _ _ _ c.all.ensures.ran (YieldsList-from_slice (take c.args.j c.args.ends.now) cc) (λ x b q k. search (rules, tests))
 
 pub returns : goal.returns
-returns c = passed_all c.loop-i.invariant (omega arith) ∙ sym (alone_is _ _)
-
-pub loop-i-init : goal.loop-i-init
-loop-i-init c = passed_none _ _
-
-pub same_ends-requires : goal.same_ends-requires
-same_ends-requires c = tt
+returns c =
+    tested (goal.at.returns c).After-all ∙ front_all _ _ c.args.ends.now c.args.j (omega (arith, c.requires)) ∙ sym (alone_is c.args.ends.now c.args.j)

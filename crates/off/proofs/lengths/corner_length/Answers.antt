@@ -1,50 +1,43 @@
 -- `off::lengths::corner_length` meets its contract: three numbers, and a byte after each.
-use mathlib.Core.Path.{◌≡◌}
+use mathlib.Core.Path.{◌∙◌}
 use Prim.Native.Nat.{◌+◌, ◌≤◌}
 use native.Mathlib.Omega.{arith}
+use lib.IntN.{pos, nat_abs}
 use lib.ListN.{length}
-use mir.Syntax.{w32}
-use Rattle.maths.proofs.Sizes.{back}
-use Rattle.off.specs.Exporting.{corner_line}
-use Rattle.off.proofs.writer.Nearness.{near_first}
-use Rattle.off.proofs.lengths.LineLengths.{corner-length-is, corner-most}
+use borrow.Author.Rules.{rules}
+use Rattle.std.proofs.Common.{tests}
+use Rattle.std.proofs.lemmas.Iterator.{YieldsList-from_map, YieldsList-from_slice}
+use Rattle.std.proofs.lemmas.Iterator.Adapters.{serves_from_places}
+use Rattle.std.proofs.lemmas.Iterator.Consumers.{YieldsList-at, sum_by_from_yields_List, fits_by_from_yields_list}
+use Rattle.std.proofs.lemmas.List.{get_or_default}
+use Rattle.off.specs.Words.{farthest}
+use Rattle.off.specs.Exporting.{signed}
+use Rattle.off.proofs.lengths.LineLengths.{corner-sum, corner-most}
+use Rattle.off.proofs.lengths.Signs.{signed-most}
 use Rattle.off.proofs.lengths.corner_length.Goals as goal
-use Rattle.off.proofs.lengths.corner_length.Goals.{After-signed_length-z}
 
-pub signed_length-x-requires : goal.signed_length-x-requires
-signed_length-x-requires c = rw (back w32 c.signed_length-arg-1.given) (near_first c.requires)
-
-pub signed_length-y-requires : goal.signed_length-y-requires
-signed_length-y-requires c = rw (back w32 c.signed_length-arg-2-1.given) (c.requires.near 1 (omega arith))
-
-pub signed_length-z-requires : goal.signed_length-z-requires
-signed_length-z-requires c =
-    rw (back w32 c.signed_length-arg-3-1.given) (c.requires.near 2 (omega arith))
-
-all_three : (c : After-signed_length-z) →
-    c.signed_length-x.result + c.signed_length-y.result + c.signed_length-z.result + 3
-    ≡ length (corner_line c.args.list.now c.args.i)
-all_three c =
-    omega (
-      arith,
-      rw (back w32 c.signed_length-arg-1.given) at c.signed_length-x.ensures,
-      rw (back w32 c.signed_length-arg-2-1.given) at c.signed_length-y.ensures,
-      rw (back w32 c.signed_length-arg-3-1.given) at c.signed_length-z.ensures,
-      corner-length-is c.args.list.now c.args.i,
+pub sum-requires-clause-can : goal.sum-requires-clause-can
+sum-requires-clause-can c =
+    let corner = c.args.corner.now in (
+      tt,
+      serves_from_places (YieldsList-at c.map.ensures.source (YieldsList-from_slice corner cc)) (λ x q e. search rules)
+          (λ x k l e.
+          let near : nat_abs x.now ≤ farthest = rw (e, get_or_default corner k x.now (pos 0) l) (c.requires.near k (omega (arith, c.requires.size, l))) in
+          search (rules, near, signed-most)),
     )
 
-small : (c : After-signed_length-z) →
-    c.signed_length-x.result + c.signed_length-y.result + c.signed_length-z.result + 3 ≤ 27
-small c = omega (arith, all_three c, corner-most c.args.list.now c.args.i)
-
-pub overflow_add-result : goal.overflow_add-result
-overflow_add-result c = omega (arith, small (goal.at.overflow_add-result c).After-signed_length-z)
-
-pub overflow_add-result-2 : goal.overflow_add-result-2
-overflow_add-result-2 c = omega (arith, small (goal.at.overflow_add-result-2 c).After-signed_length-z)
-
-pub overflow_add-result-3 : goal.overflow_add-result-3
-overflow_add-result-3 c = omega (arith, small (goal.at.overflow_add-result-3 c).After-signed_length-z)
+pub sum-requires-clause-fits : goal.sum-requires-clause-fits
+sum-requires-clause-fits c =
+    let corner = c.args.corner.now in
+    fits_by_from_yields_list (λ z. length (signed z) + 1) corner c.map.result _
+    (YieldsList-from_map _ (λ z. length (signed z) + 1) (YieldsList-at c.map.ensures.source (YieldsList-from_slice corner cc))
+    c.map.ensures.closure (λ x r q k. search (rules, tests)))
+    (omega (arith, corner-sum corner c.requires.size, corner-most corner 0))
 
 pub returns : goal.returns
-returns c = all_three c
+returns c =
+    let corner = c.args.corner.now in
+    sum_by_from_yields_List (λ z. length (signed z) + 1) corner _ _ c.sum.ensures.ran
+    (YieldsList-from_map _ (λ z. length (signed z) + 1) (YieldsList-at c.map.ensures.source (YieldsList-from_slice corner cc))
+    c.map.ensures.closure (λ x r q k. search (rules, tests)))
+    ∙ corner-sum corner c.requires.size

@@ -1,58 +1,54 @@
--- `off::lengths::ring_length` meets its contract: the length is that of the count, of a byte, and of the corners below l.
-use mathlib.Core.Path.{◌≡◌}
-use Prim.Native.Nat.{◌+◌}
+-- `off::lengths::ring_length` meets its contract: the length is that of the count, of a byte, and of the corners.
+use mathlib.Core.Path.{◌≡◌, ◌∙◌}
+use Prim.Native.Nat.{◌+◌, ◌<◌}
 use native.Mathlib.Omega.{arith}
-use lib.ListN.{length as long, take}
+use lib.ListN.{length}
+use borrow.Author.Rules.{rules}
+use Rattle.std.proofs.Common.{tests}
+use Rattle.std.proofs.lemmas.Iterator.{YieldsList-from_map, YieldsList-from_slice}
+use Rattle.std.proofs.lemmas.Iterator.Adapters.{serves_from_places}
+use Rattle.std.proofs.lemmas.List.{get_or_default}
+use Rattle.std.proofs.lemmas.Iterator.Consumers.{YieldsList-at, sum_by_from_yields_List, fits_by_from_yields_list}
+use Rattle.off.specs.Exporting.{number}
 use Rattle.off.specs.Writing.{spaced}
 use Rattle.off.proofs.lengths.Decimal.{number-most}
-use Rattle.off.proofs.lengths.LineLengths.{spaced-none, spaced_more, spaced-most}
-use Rattle.off.proofs.lengths.FirstBytes.{byte_taken, ring-line-length}
+use Rattle.off.proofs.lengths.LineLengths.{spaced-sum, spaced-most}
+use Rattle.off.proofs.lengths.RingLine.{byte_low, ring-line-length}
 use Rattle.off.proofs.lengths.ring_length.Goals as goal
-use Rattle.off.proofs.lengths.ring_length.Goals.{After-number_length}
+use Rattle.off.proofs.lengths.ring_length.Goals.{After-sum-corners}
 
--- one corner more
-more : (c : After-number_length) →
-    let r = take c.args.n c.args.bytes.now in
-    long (spaced r (c.loop-l.l + 1)) ≡ long (spaced r c.loop-l.l) + (1 + c.number_length.result)
-more c =
-    rw (c.number_length.ensures, ← byte_taken c.requires c.loop-l.l (omega arith)) (spaced_more (take c.args.n c.args.bytes.now) c.loop-l.l)
+pub sum-corners-requires-clause-can : goal.sum-corners-requires-clause-can
+sum-corners-requires-clause-can c = (
+  tt,
+  serves_from_places (YieldsList-at c.map.ensures.source (YieldsList-from_slice c.args.ring.now cc)) (λ x q e. search rules)
+      (λ x k l e. let low : x.now < 96 = omega (arith, e, get_or_default c.args.ring.now k x.now 0 l, byte_low c.requires k l) in search (rules, low, number-most)),
+)
 
-pub overflow_add-length-in-loop-l : goal.overflow_add-length-in-loop-l
-overflow_add-length-in-loop-l c =
-    let r = take c.args.n c.args.bytes.now in
-    omega (arith, more (goal.at.overflow_add-length-in-loop-l c).After-number_length, spaced-most r (c.loop-l.l + 1), c.requires.few)
+pub sum-corners-requires-clause-fits : goal.sum-corners-requires-clause-fits
+sum-corners-requires-clause-fits c =
+    let ring = c.args.ring.now in
+    fits_by_from_yields_list (λ x. 1 + length (number x)) ring c.map.result _
+    (YieldsList-from_map _ (λ x. 1 + length (number x)) (YieldsList-at c.map.ensures.source (YieldsList-from_slice ring cc))
+    c.map.ensures.closure (λ x r q k. search (rules, tests)))
+    (omega (arith, spaced-sum ring, spaced-most ring (length ring), c.requires.few))
 
-pub overflow_add-length-in-loop-l-2 : goal.overflow_add-length-in-loop-l-2
-overflow_add-length-in-loop-l-2 c =
-    let n = c.args.n in
-    let r = take n c.args.bytes.now in
-    omega (arith, more (goal.at.overflow_add-length-in-loop-l-2 c).After-number_length, number-most n, spaced-most r (c.loop-l.l + 1), c.requires.few)
+corners : (c : After-sum-corners) → let ring = c.args.ring.now in c.sum-corners.result ≡ length (spaced ring (length ring))
+corners c =
+    let ring = c.args.ring.now in
+    sum_by_from_yields_List (λ x. 1 + length (number x)) ring _ _ c.sum-corners.ensures.ran
+    (YieldsList-from_map _ (λ x. 1 + length (number x)) (YieldsList-at c.map.ensures.source (YieldsList-from_slice ring cc))
+    c.map.ensures.closure (λ x r q k. search (rules, tests)))
+    ∙ spaced-sum ring
+
+pub overflow_add-result : goal.overflow_add-result
+overflow_add-result c =
+    let ring = c.args.ring.now in
+    omega (arith, corners (goal.at.overflow_add-result c).After-sum-corners, number-most (length ring), spaced-most ring (length ring), c.requires.few)
+
+pub overflow_add-result-2 : goal.overflow_add-result-2
+overflow_add-result-2 c =
+    let ring = c.args.ring.now in
+    omega (arith, corners (goal.at.overflow_add-result-2 c).After-sum-corners, number-most (length ring), spaced-most ring (length ring), c.requires.few)
 
 pub returns : goal.returns
-returns c =
-    let e : c.loop-l.l ≡ c.args.n = omega arith in
-    omega (arith, rw e at c.loop-l.invariant.1, ring-line-length c.requires)
-
-pub overflow_cast-n : goal.overflow_cast-n
-overflow_cast-n c = omega (arith, c.requires.few)
-
-pub number_length-length-requires : goal.number_length-length-requires
-number_length-length-requires c = omega (arith, c.requires.few)
-
-pub overflow_add-length : goal.overflow_add-length
-overflow_add-length c = omega (arith, number-most c.args.n)
-
-pub loop-l-init : goal.loop-l-init
-loop-l-init c = omega (arith, spaced-none (take c.args.n c.args.bytes.now))
-
-pub bounds-bytes-l : goal.bounds-bytes-l
-bounds-bytes-l c = omega (arith, c.requires.room, c.requires.few)
-
-pub overflow_cast-bytes : goal.overflow_cast-bytes
-overflow_cast-bytes c = omega (arith, c.shared_slice_known-in-loop-l-1.given c.loop-l.l)
-
-pub number_length-requires : goal.number_length-requires
-number_length-requires c = omega (arith, c.shared_slice_known-in-loop-l-1.given c.loop-l.l)
-
-pub loop-l-preserved : goal.loop-l-preserved
-loop-l-preserved c = omega (arith, more (goal.at.loop-l-preserved c).After-number_length)
+returns c = omega (arith, corners (goal.at.returns c).After-sum-corners, ring-line-length c.args.ring.now)

@@ -1,110 +1,97 @@
 -- `off::places::put_corner` meets its contract: three numbers and the byte after each are put one after the other.
+use mathlib.Core.Path.{◌≡◌}
 use mathlib.Core.List.{List}
-use Prim.Native.Nat.{ℕ, ◌+◌, ◌*◌, ◌≤◌}
+use Prim.Native.Nat.{ℕ, ◌+◌, ◌<◌, ◌≤◌}
 use native.Mathlib.Omega.{arith}
 use lib.IntN.{ℤ, pos}
 use lib.ListN.{length, get_or}
 use mir.Syntax.{w32}
+use mir.Val.{to_z, of_z}
 use Rattle.maths.specs.Buffers.{Put}
-use Rattle.maths.proofs.Sizes.{back}
 use Rattle.maths.proofs.Buffers.{two_pieces}
 use Rattle.off.specs.Exporting.{signed, corner_line}
-use Rattle.off.proofs.writer.Nearness.{near_first}
+use Rattle.off.specs.Writing.{NearCorner}
 use Rattle.off.proofs.lengths.LineLengths.{corner-length-is}
+use Rattle.off.proofs.lengths.Signs.{near_back}
 use Rattle.off.proofs.places.put_corner.Goals as goal
-use Rattle.off.proofs.places.put_corner.Goals.{After-put-after_x, After-put-after_y, After-put_signed-x, After-put_signed-y, After-put_signed-z}
+use Rattle.off.proofs.places.put_corner.Goals.{After-put_signed-after_x, After-put-blank, After-put_signed-after_y, After-put-blank-2, After-put_signed-after_z}
 
 -- the text of a coordinate of the corner
-abbrev coordinate : List ℤ → ℕ → ℕ → List ℕ
-coordinate list i k = signed (get_or list (3 * i + k) (pos 0))
+abbrev coordinate : List ℤ → ℕ → List ℕ
+coordinate corner k = signed (get_or corner k (pos 0))
 
--- what a call put, read back from the machine's bits
-x-put : (c : After-put_signed-x) → let a = c.args in
-    Put a.out.now a.at (signed (get_or a.list.now (3 * a.i) (pos 0))) c.put_signed-x.result c.put_signed-x.new.out
-x-put c = rw (back w32 c.put_signed-arg-2-1.given) at c.put_signed-x.ensures
+-- a coordinate, read back from the machine's bits
+read : {corner : List ℤ} → NearCorner corner → (k : ℕ) → k < 3 → to_z w32 (of_z w32 (get_or corner k (pos 0))) ≡ get_or corner k (pos 0)
+read near k h = near_back _ (near.near k h)
 
-y-put : (c : After-put_signed-y) → let a = c.args in
-    Put c.put-after_x.new.out c.put-after_x.result (coordinate a.list.now a.i 1) c.put_signed-y.result c.put_signed-y.new.out
-y-put c = rw (back w32 c.put_signed-arg-4-1.given) at c.put_signed-y.ensures
+-- what a call put
+x-put : (c : After-put_signed-after_x) → let a = c.args in
+    Put a.out.now a.at (coordinate a.corner.now 0) c.put_signed-after_x.result c.put_signed-after_x.new.out
+x-put c = rw (read c.requires.near 0 (omega arith)) at c.put_signed-after_x.ensures
 
-z-put : (c : After-put_signed-z) → let a = c.args in
-    Put c.put-after_y.new.out c.put-after_y.result (coordinate a.list.now a.i 2) c.put_signed-z.result c.put_signed-z.new.out
-z-put c = rw (back w32 c.put_signed-arg-6-1.given) at c.put_signed-z.ensures
+y-put : (c : After-put_signed-after_y) →
+    Put c.put-blank.new.out c.put-blank.result (coordinate c.args.corner.now 1) c.put_signed-after_y.result c.put_signed-after_y.new.out
+y-put c = rw (read c.requires.near 1 (omega arith)) at c.put_signed-after_y.ensures
 
--- the room that is left after each call
-after-x : (c : After-put_signed-x) → let a = c.args in
-    c.put_signed-x.result + (length (coordinate a.list.now a.i 1) + length (coordinate a.list.now a.i 2) + 3) ≤ length c.put_signed-x.new.out
-after-x c = omega (arith, corner-length-is c.args.list.now c.args.i, c.requires.room, (x-put c).place, (x-put c).size)
+z-put : (c : After-put_signed-after_z) →
+    Put c.put-blank-2.new.out c.put-blank-2.result (coordinate c.args.corner.now 2) c.put_signed-after_z.result c.put_signed-after_z.new.out
+z-put c = rw (read c.requires.near 2 (omega arith)) at c.put_signed-after_z.ensures
 
-after-blank : (c : After-put-after_x) → let a = c.args in
-    c.put-after_x.result + (length (coordinate a.list.now a.i 1) + length (coordinate a.list.now a.i 2) + 2) ≤ length c.put-after_x.new.out
-after-blank c =
-    let x = rw (back w32 c.put_signed-arg-2-1.given) at c.put_signed-x.ensures in
-    omega (arith, corner-length-is c.args.list.now c.args.i, c.requires.room, x.place, x.size, c.put-after_x.ensures.place, c.put-after_x.ensures.size)
+-- the room that is left after each coordinate
+after-x : (c : After-put_signed-after_x) → let corner = c.args.corner.now in
+    c.put_signed-after_x.result + (length (coordinate corner 1) + length (coordinate corner 2) + 3) ≤ length c.put_signed-after_x.new.out
+after-x c = omega (arith, corner-length-is c.args.corner.now 0, c.requires.room, (x-put c).place, (x-put c).size)
 
-after-y : (c : After-put_signed-y) → let a = c.args in
-    c.put_signed-y.result + (length (coordinate a.list.now a.i 2) + 2) ≤ length c.put_signed-y.new.out
+after-y : (c : After-put_signed-after_y) → let corner = c.args.corner.now in
+    c.put_signed-after_y.result + (length (coordinate corner 2) + 2) ≤ length c.put_signed-after_y.new.out
 after-y c =
-    let x = rw (back w32 c.put_signed-arg-2-1.given) at c.put_signed-x.ensures in
+    let x : Put c.args.out.now c.args.at (coordinate c.args.corner.now 0) c.put_signed-after_x.result c.put_signed-after_x.new.out =
+    rw (read c.requires.near 0 (omega arith)) at c.put_signed-after_x.ensures in
     omega (
       arith,
-      corner-length-is c.args.list.now c.args.i,
+      corner-length-is c.args.corner.now 0,
       c.requires.room,
       x.place,
       x.size,
-      c.put-after_x.ensures.place,
-      c.put-after_x.ensures.size,
+      c.put-blank.ensures.place,
+      c.put-blank.ensures.size,
       (y-put c).place,
       (y-put c).size,
     )
 
-after-blank2 : (c : After-put-after_y) → c.put-after_y.result + (length (coordinate c.args.list.now c.args.i 2) + 1) ≤ length c.put-after_y.new.out
-after-blank2 c =
-    let x = rw (back w32 c.put_signed-arg-2-1.given) at c.put_signed-x.ensures in
-    let y = rw (back w32 c.put_signed-arg-4-1.given) at c.put_signed-y.ensures in
-    omega (
-      arith,
-      corner-length-is c.args.list.now c.args.i,
-      c.requires.room,
-      x.place,
-      x.size,
-      c.put-after_x.ensures.place,
-      c.put-after_x.ensures.size,
-      y.place,
-      y.size,
-      c.put-after_y.ensures.place,
-      c.put-after_y.ensures.size,
-    )
+pub put_signed-after_x-requires : goal.put_signed-after_x-requires
+put_signed-after_x-requires c =
+    rw (read c.requires.near 0 (omega arith))
+    (record { near = c.requires.near.near 0 (omega arith); room = omega (arith, corner-length-is c.args.corner.now 0, c.requires.room) })
 
-pub put_signed-x-requires : goal.put_signed-x-requires
-put_signed-x-requires c =
-    let size = corner-length-is c.args.list.now c.args.i in
-    rw (back w32 c.put_signed-arg-2-1.given) (record { near = near_first c.requires.corner; room = omega (arith, c.requires.room) })
+pub put-blank-requires : goal.put-blank-requires
+put-blank-requires c = omega (arith, after-x (goal.at.put-blank-requires c).After-put_signed-after_x)
 
-pub put_signed-y-requires : goal.put_signed-y-requires
-put_signed-y-requires c =
-    rw (back w32 c.put_signed-arg-4-1.given)
-    (record { near = c.requires.corner.near 1 (omega arith); room = omega (arith, after-blank (goal.at.put_signed-y-requires c).After-put-after_x) })
+pub put_signed-after_y-requires : goal.put_signed-after_y-requires
+put_signed-after_y-requires c =
+    rw (read c.requires.near 1 (omega arith)) (record {
+      near = c.requires.near.near 1 (omega arith);
+      room = omega (arith, after-x (goal.at.put_signed-after_y-requires c).After-put_signed-after_x, c.put-blank.ensures.place, c.put-blank.ensures.size);
+    })
 
-pub put_signed-z-requires : goal.put_signed-z-requires
-put_signed-z-requires c =
-    rw (back w32 c.put_signed-arg-6-1.given)
-    (record { near = c.requires.corner.near 2 (omega arith); room = omega (arith, after-blank2 (goal.at.put_signed-z-requires c).After-put-after_y) })
+pub put-blank-requires-2 : goal.put-blank-requires-2
+put-blank-requires-2 c = omega (arith, after-y (goal.at.put-blank-requires-2 c).After-put_signed-after_y)
 
-pub put-after_x-requires : goal.put-after_x-requires
-put-after_x-requires c = omega (arith, after-x (goal.at.put-after_x-requires c).After-put_signed-x)
-
-pub put-after_y-requires : goal.put-after_y-requires
-put-after_y-requires c = omega (arith, after-y (goal.at.put-after_y-requires c).After-put_signed-y)
+pub put_signed-after_z-requires : goal.put_signed-after_z-requires
+put_signed-after_z-requires c =
+    rw (read c.requires.near 2 (omega arith)) (record {
+      near = c.requires.near.near 2 (omega arith);
+      room = omega (arith, after-y (goal.at.put_signed-after_z-requires c).After-put_signed-after_y, c.put-blank-2.ensures.place, c.put-blank-2.ensures.size);
+    })
 
 pub put-requires : goal.put-requires
 put-requires c =
-    let z = z-put (goal.at.put-requires c).After-put_signed-z in
-    omega (arith, after-blank2 (goal.at.put-requires c).After-put-after_y, z.place, z.size)
+    let z = z-put (goal.at.put-requires c).After-put_signed-after_z in
+    omega (arith, after-y (goal.at.put-requires c).After-put_signed-after_y, c.put-blank-2.ensures.place, c.put-blank-2.ensures.size, z.place, z.size)
 
 pub returns : goal.returns
 unfolding corner_line
 returns c =
-    two_pieces (x-put (goal.at.returns c).After-put_signed-x)
-    (two_pieces c.put-after_x.ensures (two_pieces (y-put (goal.at.returns c).After-put_signed-y) (two_pieces c.put-after_y.ensures
-    (two_pieces (z-put (goal.at.returns c).After-put_signed-z) c.put.ensures))))
+    two_pieces (x-put (goal.at.returns c).After-put_signed-after_x)
+    (two_pieces c.put-blank.ensures (two_pieces (y-put (goal.at.returns c).After-put_signed-after_y)
+    (two_pieces c.put-blank-2.ensures (two_pieces (z-put (goal.at.returns c).After-put_signed-after_z) c.put.ensures))))

@@ -1,10 +1,8 @@
 -- `off::places::put_rings` meets its contract: the lines of the panels below j are put.
-use Prim.Native.Nat.{◌-◌}
-use Rattle.off.proofs.places.RingsPut.{RingsPut}
+use Rattle.maths.proofs.Buffers.{Pieces}
+use Rattle.off.specs.Exporting.{ring_line}
+use Rattle.off.specs.Walking.{panel_ring}
 use Rattle.off.proofs.places.put_rings.Given as goal
 
 abbrev pub invariant-loop-j : goal.invariant-loop-j
-invariant-loop-j l = RingsPut l.m2 l.seams l.panels l.tails l.heads l.j l.initial.out l.at l.next l.out l.bytes
-
-abbrev pub decreases-loop-j : goal.decreases-loop-j
-decreases-loop-j l = l.panels - l.j
+invariant-loop-j l = Pieces (λ j. ring_line (panel_ring l.m2 l.ends j)) l.panels l.j l.initial.out l.at l.next l.out

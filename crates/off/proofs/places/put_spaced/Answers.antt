@@ -1,31 +1,22 @@
--- `off::places::put_spaced` meets its contract: the corners below l are put.
+-- `off::places::put_spaced` meets its contract: the corners so far are put.
 use native.Mathlib.Omega.{arith}
-use Rattle.maths.proofs.Buffers.{pieces_none, pieces_fit, pieces_more, pieces_all}
-use Rattle.off.proofs.lengths.FirstBytes.{byte_taken, byte_low}
+use Rattle.maths.proofs.Buffers.{two_pieces, pieces_none, pieces_fit, pieces_more}
+use Rattle.off.proofs.lengths.RingLine.{byte_low}
 use Rattle.off.proofs.places.put_spaced.Goals as goal
 
-pub bounds-bytes-l : goal.bounds-bytes-l
-bounds-bytes-l c = omega (arith, c.requires.corners.room, c.requires.corners.few)
+pub loop-c-init : goal.loop-c-init
+loop-c-init c = pieces_none _ _
 
-pub put_corner_number-next-requires : goal.put_corner_number-next-requires
-put_corner_number-next-requires c =
+pub put-blank-requires : goal.put-blank-requires
+put-blank-requires c = omega (arith, pieces_fit c.loop-c.invariant c.requires.room (omega arith))
+
+pub put_number-next-requires : goal.put_number-next-requires
+put_number-next-requires c =
     let pre = c.requires in
-    let l = c.loop-l.l in
     record {
-      small = byte_low pre.corners l (omega arith);
-      room = rw (byte_taken pre.corners l (omega arith)) at (pieces_fit c.loop-l.invariant pre.room (omega arith));
+      small = omega (arith, byte_low pre.corners c.loop-c.c-index (omega arith));
+      room = omega (arith, pieces_fit c.loop-c.invariant pre.room (omega arith), c.put-blank.ensures.place, c.put-blank.ensures.size);
     }
 
-pub loop-l-preserved : goal.loop-l-preserved
-loop-l-preserved c =
-    let e = byte_taken c.requires.corners c.loop-l.l (omega arith) in
-    pieces_more c.loop-l.invariant (omega arith) (rw (← e) at c.put_corner_number-next.ensures)
-
-pub loop-l-init : goal.loop-l-init
-loop-l-init c = pieces_none _ _
-
-pub shape_of-out : goal.shape_of-out
-shape_of-out c = c.loop-l.invariant.put.size
-
-pub returns : goal.returns
-returns c = pieces_all c.loop-l.invariant (omega arith)
+pub loop-c-preserved : goal.loop-c-preserved
+loop-c-preserved c = pieces_more c.loop-c.invariant (omega arith) (two_pieces c.put-blank.ensures c.put_number-next.ensures)

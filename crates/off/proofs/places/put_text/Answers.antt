@@ -15,10 +15,10 @@ use Rattle.off.proofs.places.put_text.Goals.{Start}
 
 -- how long the text is, by its parts
 size : (s : Start) → let a = s.args in
-    length (text_by a.c a.m2.now a.list.now a.tails.now a.heads.now)
+    length (text_by a.c a.m2.now a.list.now a.ends.now)
     ≡ length (head_lines (count_of a.c 0) (count_of a.c 2) (count_of a.c 1)) + length (join (count_of a.c 0) (corner_line a.list.now))
-    + length (ring_lines a.m2.now (count_of a.c 1) a.tails.now a.heads.now (count_of a.c 2))
-size s = let a = s.args in text-length-is a.c a.m2.now a.tails.now a.heads.now a.list.now
+    + length (ring_lines a.m2.now a.ends.now (count_of a.c 2))
+size s = let a = s.args in text-length-is a.c a.m2.now a.ends.now a.list.now
 
 pub put_head-corners-requires : goal.put_head-corners-requires
 put_head-corners-requires c =
@@ -26,7 +26,7 @@ put_head-corners-requires c =
     record {
       few-corners = measured.near.few;
       few-panels = measured.panels.columns.few;
-      few-seams = measured.panels.ends.few;
+      few-seams = omega (arith, measured.seams, measured.panels.seams.few);
       room = omega (arith, size (goal.at.put_head-corners-requires c).Start, c.requires.room);
     }
 

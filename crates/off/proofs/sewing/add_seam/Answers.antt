@@ -1,6 +1,6 @@
 -- `off::sewing::add_seam` meets its contract: two stores are the new column, and two the new entries of the table of ends.
 use Rattle.off.proofs.sewing.SewnStored.{over-size}
-use Rattle.off.proofs.sewing.SideNumbers.{plus-number, minus_number, minus-number_fits}
+use Rattle.off.proofs.sewing.SideNumbers.{plus-number, minus_number}
 use Rattle.off.proofs.sewing.SeamAdded.{two_sizes, first-low, second-low, added}
 use Rattle.off.proofs.sewing.add_seam.Goals as goal
 
@@ -18,11 +18,6 @@ pub set_entry-requires-3 : goal.set_entry-requires-3
 set_entry-requires-3 c =
     let h = c.requires in
     record { size = (two_sizes h.corners).size3; first = first-low h.corners; second = second-low h.corners }
-
-pub overflow_sub-number : goal.overflow_sub-number
-overflow_sub-number c =
-    let h = c.requires in
-    minus-number_fits h.room
 
 pub set_entry-requires-4 : goal.set_entry-requires-4
 set_entry-requires-4 c =

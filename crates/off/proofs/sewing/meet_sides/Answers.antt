@@ -1,58 +1,50 @@
--- `off::sewing::meet_sides` meets its contract: each turn meets the next side, as `meet_sides` does, and the first refusal ends both.
-use mathlib.Core.Path.{◌≡◌, sym}
-use native.Mathlib.Omega.{arith}
-use lib.ListN.{get_or, take}
-use lib.Seq.{get_or-take}
-use Rattle.off.specs.Rings.{corner_at}
-use Rattle.off.proofs.sewing.SidesJoined.{going_none, joined_sizes, two_corners, going_on, going_stops, going_done}
+-- `meet_sides` meets side after side, as its definition does, and the first refusal ends both.
+use Rattle.std.proofs.Common.{arith, rules, length}
+use Rattle.std.proofs.lemmas.Result.{err_from_is_err_and}
+use Rattle.std.proofs.lemmas.List.{length_push}
+use Rattle.std.proofs.lemmas.Iterator.Consumers.{YieldsList-turn, YieldsList-end}
+use Rattle.off.proofs.sewing.RingSides.{ring_long}
+use Rattle.off.proofs.sewing.SidesYielded.{Side, side_here, sides_yielded, all_round}
+use Rattle.off.proofs.sewing.SidesJoined.{going_none, two_corners, going_on, going_stops, going_done}
 use Rattle.off.proofs.sewing.meet_sides.Goals as goal
-use Rattle.off.proofs.sewing.meet_sides.Goals.{In-loop-l}
+use Rattle.off.proofs.sewing.meet_sides.Goals.{In-Some}
 
--- the corner that is read
-corner : (c : In-loop-l) → let x = c.args in
-    get_or x.bytes.now c.loop-l.l 0 ≡ corner_at (take x.n x.bytes.now) c.loop-l.l
-corner c = let x = c.args in sym (get_or-take x.n x.bytes.now c.loop-l.l 0 (omega arith))
+pub split_at-requires : goal.split_at-requires
+split_at-requires c = omega (arith, ring_long c.args.ring.now c.requires.ring)
 
-pub meet_side-met-requires : goal.meet_side-met-requires
-meet_side-met-requires c =
-    let turn = (goal.at.meet_side-met-requires c).In-loop-l in
-    two_corners c.requires c.loop-l.invariant (omega arith) (corner turn) c.next_corner-b.ensures
+-- the side that is next
+side : (c : In-Some) → Side c.args.ring.now (length c.loop-tail.yielded) c.in-Some.tail.now c.in-Some.head.now
+side c =
+    side_here c.args.ring.now (omega (arith, ring_long c.args.ring.now c.requires.ring))
+    (YieldsList-turn (sides_yielded c.args.ring.now (cc) (cc) (cc) (cc) (cc))
+    c.loop-tail.yielded c.loop-tail.tail-iterator c.loop-tail.yielded_by c.next.result c.next.new.self (c.in-Some.tail, c.in-Some.head)
+    c.in-Some.is c.next.ensures.steps)
 
-pub returns-then-met-ne-ACCEPTED : goal.returns-then-met-ne-ACCEPTED
-returns-then-met-ne-ACCEPTED c =
-    let turn = (goal.at.returns-then-met-ne-ACCEPTED c).In-loop-l in
-    going_stops c.requires c.loop-l.invariant (omega arith) (corner turn) c.next_corner-b.ensures
-    c.meet_side-met.ensures (omega arith)
+pub loop-tail-init : goal.loop-tail-init
+loop-tail-init c = (search rules, search rules, going_none c.requires)
 
-pub loop-l-preserved : goal.loop-l-preserved
-loop-l-preserved c =
-    let turn = (goal.at.loop-l-preserved c).In-loop-l in
-    going_on c.requires c.loop-l.invariant (omega arith) (corner turn) c.next_corner-b.ensures
-    c.meet_side-met.ensures (omega arith)
+pub meet_side-requires : goal.meet_side-requires
+meet_side-requires c =
+    let S = side (goal.at.meet_side-requires c).In-Some in
+    two_corners c.requires c.loop-tail.invariant.2 S.inside S.tail S.head
+
+pub returns-in_err-counts : goal.returns-in_err-counts
+returns-in_err-counts c =
+    let S = side (goal.at.returns-in_err-counts c).In-Some in
+    let p = err_from_is_err_and c.from_residual.result c.from_residual.ensures.1 in
+    rw (p.1, p.2) (going_stops c.requires c.loop-tail.invariant.2 S.inside S.tail S.head c.in_err-counts.ensures)
+
+pub loop-tail-preserved : goal.loop-tail-preserved
+loop-tail-preserved c =
+    let S = side (goal.at.loop-tail-preserved c).In-Some in (
+      search rules,
+      search rules,
+      rw length_push (going_on c.requires c.loop-tail.invariant.2 S.inside S.tail S.head c.in_ok-counts.ensures),
+    )
 
 pub returns : goal.returns
-returns c = going_done c.requires c.loop-l.invariant (omega arith)
-
-pub loop-l-init : goal.loop-l-init
-loop-l-init c = going_none c.requires
-
-pub overflow_cast-a : goal.overflow_cast-a
-overflow_cast-a c = omega (arith, c.shared_slice_known-in-loop-l-1.given c.loop-l.l)
-
-pub shape_of-m1-then-met-ne-ACCEPTED : goal.shape_of-m1-then-met-ne-ACCEPTED
-shape_of-m1-then-met-ne-ACCEPTED c =
-    let turn = (goal.at.shape_of-m1-then-met-ne-ACCEPTED c).In-loop-l in
-    let stops = going_stops c.requires c.loop-l.invariant (omega arith) (corner turn) c.next_corner-b.ensures c.meet_side-met.ensures (omega arith) in
-    (joined_sizes c.requires stops).0
-
-pub shape_of-m3-then-met-ne-ACCEPTED : goal.shape_of-m3-then-met-ne-ACCEPTED
-shape_of-m3-then-met-ne-ACCEPTED c =
-    let turn = (goal.at.shape_of-m3-then-met-ne-ACCEPTED c).In-loop-l in
-    let stops = going_stops c.requires c.loop-l.invariant (omega arith) (corner turn) c.next_corner-b.ensures c.meet_side-met.ensures (omega arith) in
-    (joined_sizes c.requires stops).1
-
-pub shape_of-m1 : goal.shape_of-m1
-shape_of-m1 c = (joined_sizes c.requires (going_done c.requires c.loop-l.invariant (omega arith))).0
-
-pub shape_of-m3 : goal.shape_of-m3
-shape_of-m3 c = (joined_sizes c.requires (going_done c.requires c.loop-l.invariant (omega arith))).1
+returns c =
+    let e = YieldsList-end (sides_yielded c.args.ring.now (cc) (cc) (cc) (cc) (cc))
+    c.loop-tail.yielded c.loop-tail.tail-iterator c.loop-tail.yielded_by c.next.result c.next.new.self c.in-None.is c.next.ensures.steps in
+    let all = all_round c.args.ring.now (omega (arith, ring_long c.args.ring.now c.requires.ring)) e.1 in
+    going_done c.requires c.loop-tail.invariant.2 (omega arith)

@@ -1,11 +1,9 @@
--- `off::sewing::meet_sides` meets its contract: each turn meets the next side, as `meet_sides` does, and the first refusal ends both.
-use Prim.Native.Nat.{◌-◌}
-use lib.ListN.{take}
+-- `meet_sides` meets side after side, as its definition does, and the first refusal ends both.
+use Rattle.std.proofs.Common.{length}
 use Rattle.off.proofs.sewing.SidesJoined.{Going}
 use Rattle.off.proofs.sewing.meet_sides.Given as goal
 
-abbrev pub invariant-loop-l : goal.invariant-loop-l
-invariant-loop-l v = Going (take v.n v.bytes) v.initial.counts v.initial.m1 v.counts v.m1 v.m3 v.l
-
-abbrev pub decreases-loop-l : goal.decreases-loop-l
-decreases-loop-l v = v.n - v.l
+abbrev pub invariant-loop-tail : goal.invariant-loop-tail
+invariant-loop-tail l =
+    (goal.iterator-loop-tail).can_next l.tail-iterator × (goal.iterator-loop-tail).is_finite l.tail-iterator
+    × Going l.ring l.initial.counts l.initial.m1 l.counts l.m1 l.m3 (length l.yielded)

@@ -1,55 +1,48 @@
--- `off::sewing::put_sides` meets its contract: each turn puts the next side, and the last leaves the chain of them all.
-use mathlib.Core.Path.{◌≡◌, sym}
-use Prim.Native.Nat.{◌<◌}
-use native.Mathlib.Omega.{arith}
-use lib.ListN.{get_or, take}
-use lib.Seq.{get_or-take}
-use Rattle.off.specs.Rings.{corner_at}
-use Rattle.off.proofs.sewing.SidesPut.{stand-none, stand-size, stand-all, corner-low, next_low, side_room, stand_more}
+-- `put_sides` puts side after side, and the last leaves the chain of them all.
+use Rattle.std.proofs.Common.{◌<◌, arith, rules, length}
+use Rattle.std.proofs.lemmas.List.{length_push}
+use Rattle.std.proofs.lemmas.Iterator.Consumers.{YieldsList-turn, YieldsList-end}
+use Rattle.off.proofs.sewing.SidesYielded.{Side, side_here, sides_yielded, all_round}
+use Rattle.off.proofs.sewing.SidesPut.{stand-none, stand-all, corner-low, next_low, side_room, stand_more}
 use Rattle.off.proofs.sewing.put_sides.Goals as goal
-use Rattle.off.proofs.sewing.put_sides.Goals.{After-next_corner-b, In-loop-l}
+use Rattle.off.proofs.sewing.put_sides.Goals.{In-Some}
 
--- the corner that is read
-corner : (c : In-loop-l) → let x = c.args in
-    get_or x.bytes.now c.loop-l.l 0 ≡ corner_at (take x.n x.bytes.now) c.loop-l.l
-corner c = let x = c.args in sym (get_or-take x.n x.bytes.now c.loop-l.l 0 (omega arith))
+-- the side that is next
+side : (c : In-Some) → Side c.args.ring.now (length c.loop-tail.yielded) c.in-Some.tail.now c.in-Some.head.now
+side c =
+    side_here c.args.ring.now c.requires.long
+    (YieldsList-turn (sides_yielded c.args.ring.now (cc) (cc) (cc) (cc) (cc))
+    c.loop-tail.yielded c.loop-tail.tail-iterator c.loop-tail.yielded_by c.next.result c.next.new.self (c.in-Some.tail, c.in-Some.head)
+    c.in-Some.is c.next.ensures.steps)
 
--- the two corners are below 96
-low : (c : After-next_corner-b) → (get_or c.args.bytes.now c.loop-l.l 0 < 96) × (c.next_corner-b.result < 96)
+-- its corners are below 96
+low : (c : In-Some) → (c.in-Some.tail.now < 96) × (c.in-Some.head.now < 96)
 low c =
-    let x = c.args in
-    let read : get_or x.bytes.now c.loop-l.l 0 ≡ corner_at (take x.n x.bytes.now) c.loop-l.l = sym (get_or-take x.n x.bytes.now c.loop-l.l 0 (omega arith)) in
-    let a = corner-low c.requires c.loop-l.invariant (omega arith) read c.next_corner-b.ensures in
-    (a, next_low c.requires c.loop-l.invariant (omega arith) read c.next_corner-b.ensures)
+    let S = side c in
+    (corner-low c.requires c.loop-tail.invariant.2 S.inside S.tail S.head, next_low c.requires c.loop-tail.invariant.2 S.inside S.tail S.head)
+
+pub loop-tail-init : goal.loop-tail-init
+loop-tail-init c = (search rules, search rules, stand-none c.requires)
 
 pub put_side-requires : goal.put_side-requires
 put_side-requires c =
-    let turn = (goal.at.put_side-requires c).In-loop-l in
-    side_room c.requires c.loop-l.invariant (omega arith) (corner turn) c.next_corner-b.ensures c.put_side-arg-in-loop-l-1.given
+    let S = side (goal.at.put_side-requires c).In-Some in
+    side_room c.requires c.loop-tail.invariant.2 S.inside S.tail S.head
 
-pub loop-l-preserved : goal.loop-l-preserved
-loop-l-preserved c =
-    let turn = (goal.at.loop-l-preserved c).In-loop-l in
-    stand_more c.requires c.loop-l.invariant (omega arith) (corner turn) c.next_corner-b.ensures
-    c.put_side-arg-in-loop-l-1.given c.put_side.ensures
+pub loop-tail-preserved : goal.loop-tail-preserved
+loop-tail-preserved c =
+    let S = side (goal.at.loop-tail-preserved c).In-Some in (
+      search rules,
+      search rules,
+      rw length_push (stand_more c.requires c.loop-tail.invariant.2 S.inside S.tail S.head c.put_side.ensures),
+    )
 
 pub returns : goal.returns
-returns c = stand-all c.requires c.loop-l.invariant (omega arith)
-
-pub loop-l-init : goal.loop-l-init
-loop-l-init c = stand-none c.requires
-
-pub overflow_cast-a : goal.overflow_cast-a
-overflow_cast-a c = omega (arith, c.shared_slice_known-in-loop-l-1.given c.loop-l.l)
-
-pub overflow_mul-b : goal.overflow_mul-b
-overflow_mul-b c = omega (arith, low (goal.at.overflow_mul-b c).After-next_corner-b)
-
-pub overflow_add-b : goal.overflow_add-b
-overflow_add-b c = omega (arith, low (goal.at.overflow_add-b c).After-next_corner-b)
+returns c =
+    let e = YieldsList-end (sides_yielded c.args.ring.now (cc) (cc) (cc) (cc) (cc))
+    c.loop-tail.yielded c.loop-tail.tail-iterator c.loop-tail.yielded_by c.next.result c.next.new.self c.in-None.is c.next.ensures.steps in
+    let all = all_round c.args.ring.now c.requires.long e.1 in
+    stand-all c.requires c.loop-tail.invariant.2 (omega arith)
 
 pub bounds-m3-b : goal.bounds-m3-b
-bounds-m3-b c = omega (arith, low (goal.at.bounds-m3-b c).After-next_corner-b)
-
-pub shape_of-m2 : goal.shape_of-m2
-shape_of-m2 c = stand-size c.requires c.loop-l.invariant
+bounds-m3-b c = omega (arith, low (goal.at.bounds-m3-b c).In-Some)

@@ -1,11 +1,9 @@
--- `off::sewing::put_sides` meets its contract: each turn puts the next side, and the last leaves the chain of them all.
-use Prim.Native.Nat.{◌-◌}
-use lib.ListN.{take}
+-- `put_sides` puts side after side, and the last leaves the chain of them all.
+use Rattle.std.proofs.Common.{length}
 use Rattle.off.proofs.sewing.SidesPut.{SidesStand}
 use Rattle.off.proofs.sewing.put_sides.Given as goal
 
-abbrev pub invariant-loop-l : goal.invariant-loop-l
-invariant-loop-l v = SidesStand (take v.n v.bytes) v.m3 v.initial.m2 v.j v.m2 v.l
-
-abbrev pub decreases-loop-l : goal.decreases-loop-l
-decreases-loop-l v = v.n - v.l
+abbrev pub invariant-loop-tail : goal.invariant-loop-tail
+invariant-loop-tail l =
+    (goal.iterator-loop-tail).can_next l.tail-iterator × (goal.iterator-loop-tail).is_finite l.tail-iterator
+    × SidesStand l.ring l.m3 l.initial.m2 l.j l.m2 (length l.yielded)

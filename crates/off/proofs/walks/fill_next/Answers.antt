@@ -1,40 +1,63 @@
--- `off::walks::fill_next` meets its contract: the list is that of the seams before i, and seam i is put in.
-use mathlib.Core.Path.{◌≡◌, sym, ◌∙◌}
+-- `off::walks::fill_next` meets its contract: the list is that of the seams so far, and the next is put in.
+use mathlib.Core.Path.{◌≡◌, sym, ap, ◌∙◌}
+use mathlib.Core.List.{List}
+use Prim.Native.Nat.{ℕ, ◌-◌, ◌*◌, ◌<◌}
 use native.Mathlib.Omega.{arith}
+use lib.ListN.{length, take, drop, length-drop, length-append}
+use lib.IntN.{ℤ, pos}
+use lib.Seq.{take_all, get_or-drop}
+use mir.Syntax.{w8}
+use mir.Val.{to_z, of_z}
+use Rattle.std.proofs.lemmas.Slice.Zip.{zip_turn}
 use Rattle.maths.specs.Tables.{column}
-use Rattle.maths.proofs.Sizes.{entry_read}
+use Rattle.maths.proofs.Sizes.{back}
+use Rattle.maths.proofs.Tables.{entries_in}
 use Rattle.off.specs.Exporting.{next_among}
-use Rattle.off.specs.Walking.{ends_by}
+use Rattle.off.specs.Walking.{seam_at, ends_by}
 use Rattle.off.proofs.walks.NextCorners.{seam_put, table-long}
 use Rattle.off.proofs.walks.fill_next.Goals as goal
+use Rattle.off.proofs.walks.fill_next.Goals.{In-Some}
 
-pub loop-i-init : goal.loop-i-init
+pub loop-seam-init : goal.loop-seam-init
 unfolding next_among
-loop-i-init c = record { upto = omega arith; is = c.requires.blank }
+loop-seam-init c = c.requires.blank
+
+-- the entries from a place on
+rest_of : (m : List ℤ) (p : ℕ) → take (length m - p) (drop p m) ≡ drop p m
+rest_of m p = take_all (length m - p) (drop p m) (omega (arith, length-drop p m))
+
+-- which seam it is
+turn : (c : In-Some) → let a = c.args in let i = length c.loop-seam.yielded in
+    (i < length a.ends.now) × (c.in-Some.seam ≡ seam_at a.ends.now i) × (c.in-Some.z ≡ column a.m2.now a.j i)
+turn c =
+    let a = c.args in
+    let t = zip_turn a.ends.now (drop (96 * a.j) a.m2.now) c.loop-seam.yielded
+    c.into_iter-seam-iterator.result c.loop-seam.seam-iterator c.next.new.self c.next.result (cc)
+    (ap (λ z. z.b.rest.now) c.into_iter-seam-iterator.ensures.into_iter_gives ∙ c.zip-seam-items.ensures.second.0 ∙ rest_of a.m2.now (96 * a.j))
+    c.loop-seam.yielded_by _ c.in-Some.is c.next.ensures.steps in (
+      t.0,
+      sym c.in-Some.seam-is ∙ t.2 _,
+      sym c.in-Some.z-is ∙ t.3 (pos 0) ∙ get_or-drop (96 * a.j) a.m2.now _ (pos 0)
+          ∙ sym (entries_in a.m2.now _ a.j (omega (arith, t.0, c.requires.panel.seams.few)) c.requires.panel.line.inside),
+    )
 
 pub set_next-requires : goal.set_next-requires
 set_next-requires c =
-    let ends = c.requires.ends in
+    let it = turn (goal.at.set_next-requires c).In-Some in
+    let ends = c.requires.panel.seams in
     record {
-      room = table-long _ c.loop-i.invariant.is;
-      low-tail = ends.tail c.loop-i.i (omega arith);
-      low-head = ends.head c.loop-i.i (omega arith);
+      room = table-long _ c.loop-seam.invariant;
+      low-tail = rw (c.in-Some.seam-is, it.1) (ends.tail _ it.0);
+      low-head = rw (c.in-Some.seam-is, it.1) (ends.head _ it.0);
     }
 
-pub loop-i-preserved : goal.loop-i-preserved
-loop-i-preserved c =
-    let args = c.args in
-    let ends = c.requires.ends in
-    let read = entry_read args.m2.now c.loop-i.i args.j (omega arith) (omega arith) c.set_next-arg-in-loop-i-1.given in
-    record {
-      upto = omega arith;
-      is =
-          seam_put (ends_by args.tails.now args.heads.now) (column args.m2.now args.j) c.loop-i.i
-          (ends.tail c.loop-i.i (omega arith)) (ends.head c.loop-i.i (omega arith)) c.loop-i.invariant.is read c.set_next.ensures;
-    }
-
-pub shape_of-next : goal.shape_of-next
-shape_of-next c = table-long _ c.loop-i.invariant.is ∙ sym (table-long _ c.requires.blank)
-
-pub returns : goal.returns
-returns c = let all_in : c.loop-i.i ≡ c.args.n = omega arith in rw all_in at c.loop-i.invariant.is
+pub loop-seam-preserved : goal.loop-seam-preserved
+loop-seam-preserved c =
+    let a = c.args in
+    let it = turn (goal.at.loop-seam-preserved c).In-Some in
+    let ends = c.requires.panel.seams in
+    let i = length c.loop-seam.yielded in
+    let read : to_z w8 (of_z w8 c.in-Some.field-0-1.now) ≡ c.in-Some.field-0-1.now = back w8 (omega arith) in
+    simp length-append
+    (seam_put (ends_by a.ends.now) (column a.m2.now a.j) i (ends.tail i it.0) (ends.head i it.0) c.loop-seam.invariant (c.in-Some.z-is ∙ it.2)
+    (rw (read, c.in-Some.seam-is ∙ it.1) at c.set_next.ensures))

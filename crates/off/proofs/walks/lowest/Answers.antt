@@ -1,20 +1,22 @@
--- `off::walks::lowest` meets its contract: from no corner below a one goes anywhere, and the first from which one does ends the loop.
+-- `off::walks::lowest` meets its contract: the first corner that leads anywhere is the lowest.
+use mathlib.Core.Path.{◌≡◌}
+use mathlib.Core.Bool.{true, false}
 use native.Mathlib.Omega.{arith}
-use borrow.Author.Tests.{lt-ltb, le-ltb}
-use Rattle.off.specs.Exporting.{start_of}
-use Rattle.off.proofs.walks.Steps.{lowest_begin, lowest_here, lowest_on, lowest_none}
+use lib.Dec.{ltb}
+use lib.ListN.{take}
+use lib.Seq.{length-take-le}
+use borrow.Author.Rules.{rules}
+use Rattle.std.proofs.Common.{tests}
+use Rattle.std.proofs.lemmas.Iterator.{IsFirst-from_position, YieldsList-from_slice}
+use Rattle.off.proofs.walks.Steps.{start-is}
 use Rattle.off.proofs.walks.lowest.Goals as goal
 
-pub returns-then-next-a-lt96 : goal.returns-then-next-a-lt96
-unfolding start_of
-returns-then-next-a-lt96 c = lowest_here c.loop-a.invariant (omega arith) (lt-ltb _ 96 c.if-next-a-lt96.true)
-
-pub loop-a-preserved : goal.loop-a-preserved
-loop-a-preserved c = lowest_on c.loop-a.invariant (omega arith) (le-ltb _ 96 c.if-next-a-lt96.false)
+pub slice_bounds-iter-end : goal.slice_bounds-iter-end
+slice_bounds-iter-end c = omega (arith, c.requires, length-take-le 96 c.args.next.now (omega (arith, c.requires)))
 
 pub returns : goal.returns
-unfolding start_of
-returns c = lowest_none c.loop-a.invariant (omega arith)
-
-pub loop-a-init : goal.loop-a-init
-loop-a-init c = lowest_begin
+returns c =
+    let next = c.args.next.now in
+    start-is next c.requires c.position.result
+    (IsFirst-from_position _ _ c.position.result (λ b. ltb b 96 ≡ true) (λ b. ltb b 96 ≡ false) c.position.ensures.ran (YieldsList-from_slice (take 96 next) cc)
+    (λ x q k. search (rules, tests)) (λ x q k. search (rules, tests)))

@@ -1,27 +1,26 @@
--- `coordinate` skips blanks, looks for a minus, and limits the number after it, as its definition does.
-use mathlib.Core.Path.{ap, ◌∙◌}
-use lib.IntN.{pos}
-use Rattle.off.specs.Words.{limited, minus, coordinate_here, coordinate}
-use Rattle.off.proofs.words.Texts.{minus-here, plain_here, plain_over}
+-- `coordinate` skips blanks, and a minus is met or not; a coordinate fits 32 bits with either sign.
+use Rattle.std.proofs.Common.{arith, refl, ◌∙◌}
+use mir.Syntax.{w32}
+use Rattle.maths.proofs.Sizes.{neg_is}
+use Rattle.off.specs.Words.{number_here}
+use Rattle.off.proofs.words.Texts.{coordinate-minus, coordinate_plain}
+use Rattle.off.proofs.words.Numbers.{limited_none, negated}
 use Rattle.off.proofs.words.coordinate.Goals as goal
-use Rattle.off.proofs.words.coordinate.Goals.{then-here-s+else-s-here-eq45, else-here-s}
 
-pub returns-then-s-here-eq45 : goal.returns-then-s-here-eq45
-unfolding coordinate
-returns-then-s-here-eq45 c =
-    let s = c.args.s.now in
-    c.limited.ensures.is s
-    ∙ ap (limited minus) c.number_here.ensures
-    ∙ minus-here s c.skip_blanks-here.result c.if-s-here-eq45.true
-    ∙ ap coordinate_here c.skip_blanks-here.ensures.is
+pub returns-in_default : goal.returns-in_default
+returns-in_default c =
+    c.limited.ensures ∙ coordinate_plain c.args.s.now c.skip_blanks-here.result.now c.skip_blanks-here.ensures c.in_default.ensures.cases
+
+pub returns-in_err-z : goal.returns-in_err-z
+returns-in_err-z c =
+    let cut = c.in-Some.ensures.cases in
+    rw (c.from_residual.ensures) (
+    limited_none (number_here c.in-Some.after.now) c.in_err-z.ensures
+    ∙ rw (cut.1) (coordinate-minus c.args.s.now c.skip_blanks-here.result.now c.skip_blanks-here.ensures cut.0))
 
 pub returns : goal.returns
-unfolding coordinate
 returns c =
-    let s = c.args.s.now in
-    let here = c.skip_blanks-here.result in
-    c.limited-2.ensures.is s
-    ∙ ap (limited pos) c.number_here-2.ensures
-    ∙ elim c.if-here-s.branch
-    [ then-here-s+else-s-here-eq45 w ↦ plain_here s here w.if-s-here-eq45.false | else-here-s w ↦ plain_over s here w.if-here-s.false ]
-    ∙ ap coordinate_here c.skip_blanks-here.ensures.is
+    let cut = c.in-Some.ensures.cases in
+    let N = negated c.in_ok-z.z c.in_ok-z.rest.now (number_here c.in-Some.after.now) c.in_ok-z.ensures in
+    rw (neg_is w32 {x = c.in_ok-z.z} refl (omega (arith, N.near)))
+    (N.is ∙ rw (cut.1) (coordinate-minus c.args.s.now c.skip_blanks-here.result.now c.skip_blanks-here.ensures cut.0))

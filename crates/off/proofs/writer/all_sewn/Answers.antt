@@ -1,20 +1,22 @@
--- `off::writer::all_sewn` meets its contract: every seam before i is in some panel, and the first that is not ends the loop.
-use mathlib.Core.Path.{sym, ap, ◌∙◌}
+-- `off::writer::all_sewn` meets its contract: every seam is tested.
+use mathlib.Core.Path.{◌≡◌, refl, ◌∙◌}
 use mathlib.Core.Bool.{not}
 use native.Mathlib.Omega.{arith}
-use Rattle.grid.proofs.Joined.{passed_none, passed_more, passed_not, passed_all}
+use borrow.Author.Rules.{rules}
+use Rattle.std.specs.List.{list_all, range_with_len}
+use Rattle.std.proofs.Common.{tests}
+use Rattle.std.proofs.lemmas.Iterator.{YieldsList-from_range}
+use Rattle.std.proofs.lemmas.Iterator.Search.{all_from_yields_List}
+use Rattle.maths.specs.Tests.{is_zero, all}
+use Rattle.maths.specs.Tables.{entries}
+use Rattle.off.proofs.ends.FrontAll.{range_all}
 use Rattle.off.proofs.writer.all_sewn.Goals as goal
+use Rattle.off.proofs.writer.all_sewn.Goals.{After-all}
 
-pub returns-then-row_zero : goal.returns-then-row_zero
-returns-then-row_zero c =
-    passed_not c.loop-i.invariant (omega arith) (ap not (sym c.row_zero.ensures ∙ c.if-row_zero.true))
-
-pub loop-i-preserved : goal.loop-i-preserved
-loop-i-preserved c =
-    passed_more c.loop-i.invariant (omega arith) (ap not (sym c.row_zero.ensures ∙ c.if-row_zero.false))
+tested : (c : After-all) → let m2 = c.args.m2.now in
+    c.all.result ≡ list_all (λ i. not (all 96 (λ j. is_zero (entries m2 i j)))) (range_with_len 0 c.args.n)
+tested c =
+    all_from_yields_List _ _ _ _ c.all.ensures.ran (YieldsList-from_range 0 c.args.n c.args.n refl (omega arith)) (λ x b q k. search (rules, tests))
 
 pub returns : goal.returns
-returns c = passed_all c.loop-i.invariant (omega arith)
-
-pub loop-i-init : goal.loop-i-init
-loop-i-init c = passed_none _ _
+returns c = tested (goal.at.returns c).After-all ∙ range_all _ _

@@ -1,26 +1,25 @@
--- `off::writer::are_near` meets its contract: every coordinate before i is in range, and the first that is not ends the loop.
-use mathlib.Core.Path.{sym, ◌∙◌}
+-- `off::writer::are_near` meets its contract: every coordinate of the n corners is tested.
+use mathlib.Core.Path.{◌≡◌, ◌∙◌}
+use Prim.Native.Nat.{◌*◌}
 use native.Mathlib.Omega.{arith}
-use mir.Syntax.{w32}
-use Rattle.maths.proofs.Sizes.{back}
-use Rattle.grid.proofs.Joined.{passed_none, passed_more, passed_not, passed_all}
+use lib.Dec.{leb}
+use lib.IntN.{nat_abs}
+use lib.ListN.{take}
+use borrow.Author.Rules.{rules}
+use Rattle.std.specs.List.{list_all}
+use Rattle.std.proofs.Common.{tests}
+use Rattle.std.proofs.lemmas.Iterator.{YieldsList-from_slice}
+use Rattle.std.proofs.lemmas.Iterator.Search.{all_from_yields_List}
+use Rattle.off.specs.Words.{farthest}
 use Rattle.off.specs.Exporting.{coordinates_near}
+use Rattle.off.proofs.ends.FrontAll.{front_all}
 use Rattle.off.proofs.writer.are_near.Goals as goal
+use Rattle.off.proofs.writer.are_near.Goals.{After-all}
 
-pub returns-then-not-is_near : goal.returns-then-not-is_near
-unfolding coordinates_near
-returns-then-not-is_near c =
-    let told = rw (back w32 c.is_near-arg-1.given) at c.is_near.ensures in
-    passed_not c.loop-i.invariant (omega arith) (sym told ∙ c.if-not-is_near.true)
-
-pub loop-i-preserved : goal.loop-i-preserved
-loop-i-preserved c =
-    let told = rw (back w32 c.is_near-arg-1.given) at c.is_near.ensures in
-    passed_more c.loop-i.invariant (omega arith) (sym told ∙ c.if-not-is_near.false)
+tested : (c : After-all) → c.all.result ≡ list_all (λ z. leb (nat_abs z) farthest) (take (3 * c.args.n) c.args.list.now)
+tested c =
+    all_from_yields_List _ _ _ _ c.all.ensures.ran (YieldsList-from_slice (take (3 * c.args.n) c.args.list.now) cc) (λ x b q k. search (rules, tests))
 
 pub returns : goal.returns
 unfolding coordinates_near
-returns c = passed_all c.loop-i.invariant (omega arith)
-
-pub loop-i-init : goal.loop-i-init
-loop-i-init c = passed_none _ _
+returns c = tested (goal.at.returns c).After-all ∙ front_all _ _ c.args.list.now (3 * c.args.n) (omega (arith, c.requires.size, c.requires.few))

@@ -3,26 +3,26 @@ use mathlib.Core.Path.{◌≡◌, sym, ◌∙◌}
 use lib.ListN.{length}
 use borrow.Author.Rules.{rules}
 use Rattle.rules.specs.Refusals.{accepted}
-use Rattle.rules.specs.Lending.{as_lent}
+use Rattle.rules.specs.Lending.{seen_by}
 use Rattle.rules.specs.Good.{Held}
 use Rattle.good.specs.Tested.{tested}
 use Rattle.good.proofs.Passing.{held}
 use Rattle.off.proofs.writer.ExportAnswers.{wrong_list, wrong_pattern, good-pattern}
+use Rattle.rules.proofs.Branches.Refused.{not_accepted, handed_on}
 use Rattle.off.proofs.writer.export_off.Goals as goal
-use Rattle.off.proofs.writer.export_off.Goals.{Else-refusal-ne-ACCEPTED}
+use Rattle.off.proofs.writer.export_off.Goals.{In_ok-refusal_of_pattern}
 
 -- it passed its test
-passed : (c : Else-refusal-ne-ACCEPTED) → tested (as_lent c.args.c c.args.m1.now c.args.m2.now c.args.m3.now) ≡ accepted
-passed c = sym c.refusal_of_pattern-refusal.ensures ∙ c.if-refusal-ne-ACCEPTED.false
+passed : (c : In_ok-refusal_of_pattern) → tested (seen_by c.args.p) ≡ accepted
+passed c = sym c.in_ok-refusal_of_pattern.ensures
 
-good : (c : Else-refusal-ne-ACCEPTED) → Held (as_lent c.args.c c.args.m1.now c.args.m2.now c.args.m3.now)
+good : (c : In_ok-refusal_of_pattern) → Held (seen_by c.args.p)
 good c =
-    let entry = as_lent c.args.c c.args.m1.now c.args.m2.now c.args.m3.now in
-    let four : length c.args.c.n ≡ 4 = search rules in held entry four (passed c)
+    let four : length c.args.p.counts.n ≡ 4 = search rules in held (seen_by c.args.p) four (passed c)
 
 pub export_good-requires : goal.export_good-requires
 export_good-requires c =
-    let h = good (goal.at.export_good-requires c).Else-refusal-ne-ACCEPTED in
+    let h = good (goal.at.export_good-requires c).In_ok-refusal_of_pattern in
     record {
       four = h.sized.four;
       corners = h.good.few 0;
@@ -33,12 +33,12 @@ export_good-requires c =
 
 pub returns : goal.returns
 returns c =
-    c.export_good.ensures ∙ good-pattern _ _ _ c.if-list-ne-COORDINATES.false (passed (goal.at.returns c).Else-refusal-ne-ACCEPTED)
+    c.export_good.ensures ∙ good-pattern _ _ _ c.if-list-ne-COORDINATES.false (passed (goal.at.returns c).In_ok-refusal_of_pattern)
 
 pub returns-then-list-ne-COORDINATES : goal.returns-then-list-ne-COORDINATES
-returns-then-list-ne-COORDINATES c = rw c.no_text.ensures (wrong_list _ _ _ c.if-list-ne-COORDINATES.true)
+returns-then-list-ne-COORDINATES c = wrong_list _ _ _ c.if-list-ne-COORDINATES.true
 
-pub returns-then-refusal-ne-ACCEPTED : goal.returns-then-refusal-ne-ACCEPTED
-returns-then-refusal-ne-ACCEPTED c =
-    rw c.no_text-then-refusal-ne-ACCEPTED.ensures
-    (wrong_pattern _ _ _ c.if-list-ne-COORDINATES.false c.refusal_of_pattern-refusal.ensures c.if-refusal-ne-ACCEPTED.true)
+pub returns-in_err-refusal_of_pattern : goal.returns-in_err-refusal_of_pattern
+returns-in_err-refusal_of_pattern c =
+    rw (handed_on c.from_residual.ensures)
+    (wrong_pattern _ _ _ c.if-list-ne-COORDINATES.false c.in_err-refusal_of_pattern.ensures (not_accepted c.in_err-refusal_of_pattern.field-0.0))

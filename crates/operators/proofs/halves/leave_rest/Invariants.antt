@@ -1,6 +1,5 @@
 -- `operators::halves::leave_rest` meets its contract: the rows below i of column c have the rest, and row i is still the old one.
 use mathlib.Core.Bool.{cond}
-use Prim.Native.Nat.{◌-◌}
 use lib.IntN.{pos}
 use Rattle.maths.specs.Tables.{entries}
 use Rattle.maths.specs.Tests.{is_zero}
@@ -10,6 +9,3 @@ use Rattle.operators.proofs.halves.leave_rest.Given as goal
 
 abbrev pub invariant-loop-i : goal.invariant-loop-i
 invariant-loop-i l = Down l.c l.i (λ i. cond (is_zero (coefficients l.taken i)) (entries l.initial.m i l.c) (pos 0)) (entries l.initial.m) l.m
-
-abbrev pub decreases-loop-i : goal.decreases-loop-i
-decreases-loop-i l = 96 - l.i

@@ -1,101 +1,92 @@
 -- `operators::make::make` meets its contract: its tests are those of `make_step`, in the same order, and the column that is stored is the chain of the faces.
-use mathlib.Core.Path.{◌≡◌, sym, ap, ◌∙◌}
-use mathlib.Core.Bool.{true}
-use Prim.Native.Nat.{ℕ, pred, ◌<◌, ◌≤◌}
+use mathlib.Core.Path.{◌≡◌, ap, ◌∙◌}
+use Prim.Native.Nat.{ℕ, pred, ◌-◌, ◌<◌, ◌≤◌}
 use native.Mathlib.Omega.{arith}
-use Rattle.grid.proofs.Summing.{blank}
 use Rattle.rules.specs.Counts.{count_of}
 use Rattle.rules.specs.Complex.{Pattern, complex}
-use Rattle.rules.specs.Operators.{chain_of, all_below}
+use Rattle.rules.specs.Lending.{lent_by}
 use Rattle.rules.specs.Form.{made_of}
-use Rattle.rules.specs.Calls.{coefficients}
 use Rattle.rules.proofs.Bytes.Faces.{given-units}
-use Rattle.rules.specs.Lending.{as_lent}
 use Rattle.operators.proofs.make.Bytes.{make-formed}
 use Rattle.rules.proofs.Storage.Stored.{count-is}
+use Rattle.operators.proofs.Patterns.Counted.{count-below}
+use Rattle.operators.specs.Column.{drawn}
+use Rattle.operators.proofs.make.Columns.{Drawn, got_drawn, not-drawn}
 use Rattle.operators.proofs.make.Made.{no_such_face, full, not-closed, made_is}
 use Rattle.operators.proofs.make.make.Goals as goal
-use Rattle.operators.proofs.make.make.Goals.{After-draw, Else-c-k-ge-MOST, Else-not-draw}
+use Rattle.operators.proofs.make.make.Goals.{In-Some, Else-p-k-ge-MOST}
 
 -- how many cells the faces are to be among
-cells : {k : ℕ} (p : Pattern) (dim : ℕ) → dim ≤ 3 → k ≡ pred dim → count_of p.counts k ≡ (complex p (pred dim)).n
-cells p dim most e = ap (count_of p.counts) e ∙ sym (count-is p (pred dim) (omega arith))
+cells : {k : ℕ} (p : Pattern) (dim : ℕ) → dim ≤ 3 → k ≡ dim - 1 → count_of p.counts k ≡ (complex p (pred dim)).n
+cells p dim most e = rw e (count-below p dim most)
 
 pub draw-requires : goal.draw-requires
 draw-requires c =
     let held = c.requires.held in
     let form = c.requires.make_form in
-    let entry = as_lent c.args.c c.args.m1.now c.args.m2.now c.args.m3.now in
-    record { bytes = form; few = rw (cells entry c.args.dim form.most c.below.ensures) (held.good.few (pred c.args.dim)); blank = blank }
+    let entry = lent_by c.args.p.now in
+    record { bytes = form; few = rw (cells entry c.args.dim form.most c.saturating_sub.ensures) (held.good.few (pred c.args.dim)) }
 
--- whether they are
-below-is : (c : After-draw) → let a = c.args in
-    c.draw.result ≡ all_below (complex (as_lent a.c a.m1.now a.m2.now a.m3.now) (pred a.dim)).n (made_of a.s.now a.dim a.list)
-below-is c =
-    let a = c.args in
-    c.draw.ensures.is
-    ∙ ap (λ n. all_below n (made_of a.s.now a.dim a.list))
-    (cells (as_lent a.c a.m1.now a.m2.now a.m3.now) a.dim c.requires.make_form.most c.below.ensures)
-
-pub returns-then-not-draw : goal.returns-then-not-draw
-returns-then-not-draw c =
-    let entry = as_lent c.args.c c.args.m1.now c.args.m2.now c.args.m3.now in
+pub returns-in_default-clause-does : goal.returns-in_default-clause-does
+returns-in_default-clause-does c =
+    let entry = lent_by c.args.p.now in
     let faces = made_of c.args.s.now c.args.dim c.args.list in
     no_such_face entry c.args.dim faces
-    (sym (below-is (goal.at.returns-then-not-draw c).After-draw) ∙ c.if-not-draw.true)
+    (not-drawn _ faces (c.in_default.ensures ∙ ap (λ n. drawn n faces) (cells entry c.args.dim c.requires.make_form.most c.saturating_sub.ensures)))
 
--- all faces are cells
-below : (c : After-draw) → c.draw.result ≡ true → let a = c.args in
-    all_below (complex (as_lent a.c a.m1.now a.m2.now a.m3.now) (pred a.dim)).n (made_of a.s.now a.dim a.list) ≡ true
-below c e = sym (below-is c) ∙ e
+-- all faces are cells, and the column is their chain
+column : (c : In-Some) → let a = c.args in
+    Drawn (complex (lent_by a.p.now) (pred a.dim)).n (made_of a.s.now a.dim a.list) c.in-Some.column
+column c =
+    let a = c.args in
+    let entry = lent_by a.p.now in
+    got_drawn _ _ (c.requires.held.good.few (pred a.dim))
+    (c.in-Some.ensures ∙ ap (λ n. drawn n (made_of a.s.now a.dim a.list)) (cells entry a.dim c.requires.make_form.most c.saturating_sub.ensures))
 
-pub returns-then-c-k-ge-MOST : goal.returns-then-c-k-ge-MOST
-returns-then-c-k-ge-MOST c =
-    let entry = as_lent c.args.c c.args.m1.now c.args.m2.now c.args.m3.now in
+pub returns-then-p-k-ge-MOST-clause-does : goal.returns-then-p-k-ge-MOST-clause-does
+returns-then-p-k-ge-MOST-clause-does c =
+    let entry = lent_by c.args.p.now in
     let faces = made_of c.args.s.now c.args.dim c.args.list in
     let form = c.requires.make_form in
-    full entry c.args.dim faces
-    (below (goal.at.returns-then-c-k-ge-MOST c).After-draw c.if-not-draw.false)
-    (omega (arith, count-is entry c.args.dim form.most, c.if-c-k-ge-MOST.true))
+    full entry c.args.dim faces (column (goal.at.returns-then-p-k-ge-MOST-clause-does c).In-Some).below
+    (omega (arith, count-is entry c.args.dim form.most, c.if-p-k-ge-MOST.true))
 
--- there is room, and the column is the chain of the faces
-room : (c : Else-c-k-ge-MOST) → (complex (as_lent c.args.c c.args.m1.now c.args.m2.now c.args.m3.now) c.args.dim).n < 96
+-- there is room
+room : (c : Else-p-k-ge-MOST) → (complex (lent_by c.args.p.now) c.args.dim).n < 96
 room c =
-    let entry = as_lent c.args.c c.args.m1.now c.args.m2.now c.args.m3.now in
+    let entry = lent_by c.args.p.now in
     let form = c.requires.make_form in
-    omega (arith, count-is entry c.args.dim form.most, c.if-c-k-ge-MOST.false)
-
-chain : (c : Else-not-draw) → coefficients c.draw.new.column ≡ chain_of (made_of c.args.s.now c.args.dim c.args.list)
-chain c = c.draw.ensures.chain c.if-not-draw.false
+    omega (arith, count-is entry c.args.dim form.most, c.if-p-k-ge-MOST.false)
 
 pub append-requires : goal.append-requires
 append-requires c =
     let held = c.requires.held in
     let form = c.requires.make_form in
+    let drawn = column (goal.at.append-requires c).In-Some in
     record {
       dim = form.most;
       held = held;
-      room = room (goal.at.append-requires c).Else-c-k-ge-MOST;
-      size = c.draw.ensures.size;
-      unit = λ i. rw (ap (λ x. x i) (chain (goal.at.append-requires c).Else-not-draw)) (given-units (made_of c.args.s.now c.args.dim c.args.list) (make-formed form).1 i);
+      room = room (goal.at.append-requires c).Else-p-k-ge-MOST;
+      size = drawn.size;
+      unit = λ i. rw (ap (λ x. x i) drawn.chain) (given-units (made_of c.args.s.now c.args.dim c.args.list) (make-formed form).1 i);
     }
 
-pub returns-then-not-append : goal.returns-then-not-append
-returns-then-not-append c =
-    let entry = as_lent c.args.c c.args.m1.now c.args.m2.now c.args.m3.now in
+pub returns-then-not-append-clause-does : goal.returns-then-not-append-clause-does
+returns-then-not-append-clause-does c =
+    let entry = lent_by c.args.p.now in
     let faces = made_of c.args.s.now c.args.dim c.args.list in
-    not-closed entry c.args.dim faces
-    (below (goal.at.returns-then-not-append c).After-draw c.if-not-draw.false) (room (goal.at.returns-then-not-append c).Else-c-k-ge-MOST)
-    (chain (goal.at.returns-then-not-append c).Else-not-draw) (rw c.if-not-append.true at c.append.ensures)
+    let drawn = column (goal.at.returns-then-not-append-clause-does c).In-Some in
+    rw c.append.ensures.counts
+    (not-closed entry c.args.dim faces drawn.below (room (goal.at.returns-then-not-append-clause-does c).Else-p-k-ge-MOST)
+    drawn.chain (rw c.if-not-append.true at c.append.ensures.does))
 
-pub returns : goal.returns
-returns c =
-    let entry = as_lent c.args.c c.args.m1.now c.args.m2.now c.args.m3.now in
+pub returns-clause-does : goal.returns-clause-does
+returns-clause-does c =
+    let entry = lent_by c.args.p.now in
     let faces = made_of c.args.s.now c.args.dim c.args.list in
     let held = c.requires.held in
     let form = c.requires.make_form in
-    rw c.grown-counts.ensures
-    (made_is entry c.args.dim faces
-    (below (goal.at.returns c).After-draw c.if-not-draw.false) (room (goal.at.returns c).Else-c-k-ge-MOST)
-    (chain (goal.at.returns c).Else-not-draw) held.sized form.most
-    (rw c.if-not-append.false at c.append.ensures))
+    let drawn = column (goal.at.returns-clause-does c).In-Some in
+    rw (c.grown-p.ensures, c.append.ensures.counts)
+    (made_is entry c.args.dim faces drawn.below (room (goal.at.returns-clause-does c).Else-p-k-ge-MOST)
+    drawn.chain held.sized form.most (rw c.if-not-append.false at c.append.ensures.does))

@@ -1,41 +1,31 @@
 -- `operators::merge::merge_at` meets its contract: the cell's column goes, the two beside it become one, the higher one's row goes; what is left is as it was.
 use mathlib.Core.Path.{◌≡◌}
 use native.Mathlib.Omega.{arith}
-use Rattle.operators.proofs.Patterns.Patterns.{unit1, unit2, unit-line}
-use Rattle.operators.proofs.merge.MergeLaws.{apart1, apart2, apart3, above2, above3, merge0, merge1, merge2}
+use Rattle.operators.proofs.merge.MergeLaws.{apart, some_left, merge0, merge1, merge2}
 use Rattle.operators.proofs.merge.merge_at.Goals as goal
 
-pub returns-in-0 : goal.returns-in-0
-returns-in-0 c =
-    rw c.in-0.is (merge0 c.requires.cell.held.sized _ _ _ c.join.ensures c.remove_row.ensures)
+pub returns-in-0-clause-does : goal.returns-in-0-clause-does
+returns-in-0-clause-does c =
+    rw (c.shrunk-p.ensures, c.shrunk.ensures, c.in-0.is) (merge0 c.requires.cell.held.sized _ _ _ c.join.ensures c.remove_row.ensures)
 
-pub returns-in-1 : goal.returns-in-1
-returns-in-1 c =
-    rw c.in-1.is
+pub returns-in-1-clause-does : goal.returns-in-1-clause-does
+returns-in-1-clause-does c =
+    rw (c.shrunk-p.ensures, c.shrunk.ensures, c.in-1.is)
     (merge1 c.requires.cell.held.sized _ _ _ c.remove_column.ensures c.join-in-1.ensures c.remove_row-in-1.ensures)
 
-pub returns-in_default : goal.returns-in_default
-returns-in_default c =
+pub returns-in_default-clause-does : goal.returns-in_default-clause-does
+returns-in_default-clause-does c =
     let e : c.args.dim ≡ 2 = omega (arith, c.requires.cell.range.high) in
-    rw e (merge2 c.requires.cell.held.sized _ _ _ c.remove_column-in_default.ensures c.join-in_default.ensures)
+    rw (c.shrunk-p.ensures, c.shrunk.ensures, e) (merge2 c.requires.cell.held.sized _ _ _ c.remove_column-in_default.ensures c.join-in_default.ensures)
+
+pub shrunk-p-requires : goal.shrunk-p-requires
+shrunk-p-requires c = (omega (arith, c.requires.cell.range.high), rw c.shrunk.ensures (some_left c.requires))
 
 pub join-requires : goal.join-requires
-join-requires c = apart1 c.requires
-
-pub remove_row-requires : goal.remove_row-requires
-remove_row-requires c = above2 c.requires
-
-pub remove_column-requires : goal.remove_column-requires
-remove_column-requires c = unit-line (unit1 c.requires.cell)
+join-requires c = apart c.requires 0
 
 pub join-requires-in-1 : goal.join-requires-in-1
-join-requires-in-1 c = apart2 c.requires
-
-pub remove_row-requires-in-1 : goal.remove_row-requires-in-1
-remove_row-requires-in-1 c = above3 c.requires
-
-pub remove_column-requires-in_default : goal.remove_column-requires-in_default
-remove_column-requires-in_default c = unit-line (unit2 c.requires.cell)
+join-requires-in-1 c = apart c.requires 1
 
 pub join-requires-in_default : goal.join-requires-in_default
-join-requires-in_default c = apart3 c.requires
+join-requires-in_default c = apart c.requires 2

@@ -1,44 +1,42 @@
--- `operators::merge::shared` meets its contract: after i turns `found` is the count of the first i rows, so it is at most i.
-use mathlib.Core.Path.{◌≡◌, sym}
-use mathlib.Core.Bool.{Bool}
-use mathlib.Core.List.{List}
-use Prim.Native.Nat.{ℕ, ◌+◌, ◌*◌, ◌<◌}
-use native.Mathlib.Omega.{arith}
-use lib.IntN.{ℤ, pos}
-use lib.ListN.{get_or}
-use mir.Syntax.{w8}
-use borrow.Author.Rules.{rules}
+-- `operators::merge::shared` meets its contract: the pairs of the two columns that pass are counted.
+use Rattle.std.proofs.Common.{rules, ◌≡◌, ◌∙◌, ap, ap₂, ℕ, ℤ, pos, List, length, get_or, arith}
+use Rattle.std.specs.List.{zip, filter}
+use Rattle.std.proofs.lemmas.Iterator.{YieldsList-from_slice, YieldsList-from_zip}
+use Rattle.std.proofs.lemmas.Iterator.Consumers.{count_from_yields_List, YieldsList-from_filter}
+use Rattle.std.proofs.lemmas.Slice.Zip.{length-zip, get_or-zip}
+use Rattle.maths.specs.Tests.{eq_z, is_zero, count}
 use Rattle.maths.specs.Tables.{entries}
-use Rattle.maths.proofs.Tests.{count_none}
-use Rattle.maths.proofs.Tables.{entries_in}
-use Rattle.maths.proofs.Sizes.{back}
-use Rattle.grid.specs.Grid.{Lines}
-use Rattle.grid.proofs.Joined.{count_turn, count_fits}
+use Rattle.maths.proofs.Tests.{count_same}
+use Rattle.grid.specs.Grid.{cut, Lines}
+use Rattle.grid.proofs.Cuts.{length-cut}
 use Rattle.operators.specs.Joins.{both, shared_by}
+use Rattle.operators.proofs.chosen.Lists.{counted, column_held}
 use Rattle.operators.proofs.merge.shared.Goals as goal
 
-pub loop-i-init : goal.loop-i-init
-loop-i-init c = (omega arith, sym (count_none _))
-
-pub overflow_cast-found : goal.overflow_cast-found
-overflow_cast-found c = search rules
-
-pub overflow_add-found : goal.overflow_add-found
-overflow_add-found c = count_fits c.loop-i.i _ c.loop-i.invariant.1 c.both8.result (omega arith)
-
--- the test of row i by the places of its two entries
-row-tested : {d : List ℤ} {a b i : ℕ} {x : Bool} → Lines d a b → i < 96
-    → x ≡ both (get_or d (96 * a + i) (pos 0)) (get_or d (96 * b + i) (pos 0)) → x ≡ both (entries d i a) (entries d i b)
-row-tested {d} {a} {b} {i} h l e = rw (e, entries_in d i a l h.first, entries_in d i b l h.second)
-
-pub loop-i-preserved : goal.loop-i-preserved
-loop-i-preserved c =
-    let tested = rw (back w8 c.both8-arg-1.given, back w8 c.both8-arg-in-loop-i-1.given) at c.both8.ensures in
-    (omega arith, count_turn c.loop-i.i _ c.loop-i.invariant.1 (row-tested c.requires (omega arith) tested))
+-- the pairs that pass are counted row by row
+by_rows : {d : List ℤ} {a b : ℕ} → Lines d a b
+    → length (filter (λ (p : ℤ × ℤ). both p.0 p.1) (zip (cut a d) (cut b d))) ≡ shared_by (entries d) a b
+unfolding shared_by
+by_rows {d} {a} {b} h =
+    let x = cut a d in
+    let y = cut b d in
+    let long_x : length x ≡ 96 = length-cut d a h.size h.first in
+    let long_y : length y ≡ 96 = length-cut d b h.size h.second in
+    let long : length (zip x y) ≡ 96 = length-zip x y ∙ omega arith in
+    counted (λ (p : ℤ × ℤ). both p.0 p.1) (pos 0, pos 0) (zip x y)
+    ∙ ap (λ n. count n (λ k. both (get_or (zip x y) k (pos 0, pos 0)).0 (get_or (zip x y) k (pos 0, pos 0)).1)) long
+    ∙ count_same 96 (λ i l. rw (get_or-zip x y i (pos 0, pos 0) (omega arith) (omega arith))
+    (ap₂ both (ap (λ f. f i) (column_held {cell = a} (record { size = h.size; inside = h.first })))
+    (ap (λ f. f i) (column_held {cell = b} (record { size = h.size; inside = h.second })))))
 
 pub returns : goal.returns
-unfolding shared_by
-returns c = let e : c.loop-i.i ≡ 96 = omega arith in rw e at c.loop-i.invariant.1
-
-pub both8-requires : goal.both8-requires
-both8-requires c = tt
+unfolding is_zero eq_z
+returns c =
+    let a = c.args in
+    count_from_yields_List c.filter.result _ c.count.ensures.ran
+    (YieldsList-from_filter _ (λ (p : ℤ × ℤ). both p.0 p.1)
+    (YieldsList-from_zip
+    (YieldsList-from_slice (cut a.a a.d.now) cc)
+    (YieldsList-from_slice (cut a.b a.d.now) cc))
+    c.filter.ensures.closure (λ x b q k. (search rules, search rules)))
+    ∙ by_rows c.requires

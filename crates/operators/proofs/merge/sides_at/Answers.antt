@@ -1,22 +1,12 @@
 -- `operators::merge::sides_at` meets its contract: matrix 1, 2 or 3 has the row of a corner, a seam or a panel.
 use mathlib.Core.Path.{◌≡◌}
 use native.Mathlib.Omega.{arith}
-use Rattle.operators.proofs.Patterns.Patterns.{unit1, unit2, unit3, unit-line}
 use Rattle.operators.proofs.merge.sides_at.Goals as goal
 
 pub returns-in_default : goal.returns-in_default
 returns-in_default c =
     let e : c.args.dim ≡ 2 = omega (arith, c.requires.range.high) in
     rw e c.sides_in-in_default.ensures
-
-pub sides_in-requires : goal.sides_in-requires
-sides_in-requires c = unit-line (unit1 c.requires)
-
-pub sides_in-requires-in-1 : goal.sides_in-requires-in-1
-sides_in-requires-in-1 c = unit-line (unit2 c.requires)
-
-pub sides_in-requires-in_default : goal.sides_in-requires-in_default
-sides_in-requires-in_default c = unit-line (unit3 c.requires)
 
 pub returns-in-0 : goal.returns-in-0
 returns-in-0 c = rw c.in-0.is c.sides_in.ensures

@@ -1,43 +1,26 @@
 -- `operators::split::divide` meets its contract: two tests, as in the definition, and then the stores of each matrix.
-use Rattle.grid.proofs.Summing.{blank}
-use Rattle.operators.proofs.split.Divisions.{takeable, part_under, two_halves, new_column, new_row, wrong_part_lem, wrong_divider_lem, all-stored}
+use Rattle.maths.specs.Tables.{column}
+use Rattle.rules.specs.Operators.{chosen}
+use Rattle.operators.specs.Part.{numbers}
+use Rattle.operators.proofs.chosen.Lists.{column_held}
+use Rattle.operators.proofs.split.Divisions.{Taken, got_part, got_none, the_column, part_under, wrong_part_lem, wrong_divider_lem, all-stored}
 use Rattle.operators.proofs.split.divide.Goals as goal
+use Rattle.operators.proofs.split.divide.Goals.{In-Some}
 
-pub take_part-requires : goal.take_part-requires
-take_part-requires c =
-    let choice = c.requires.choice in
-    let fits = c.requires.splittable in
-    record { choice = choice; takeable = takeable fits }
+pub returns-in_default : goal.returns-in_default
+returns-in_default c = wrong_part_lem _ _ _ _ _ _ _ _ (got_none _ _ (rw (c.column.ensures.is, column_held (the_column c.requires.splittable)) at c.in_default.ensures))
 
-pub returns-then-not-take_part : goal.returns-then-not-take_part
-returns-then-not-take_part c = wrong_part_lem _ _ _ _ _ _ _ _ c.take_part.ensures c.if-not-take_part.true-raw
+-- the part, of the column of the cell
+part : (c : In-Some) → let a = c.args in let v = column a.mid.now a.cell in Taken (chosen a.dim (numbers a.faces.now) v) v c.in-Some.taken
+part c = got_part _ _ (rw (c.column.ensures.is, column_held (the_column c.requires.splittable)) at c.in-Some.ensures)
 
-pub take_boundary-requires : goal.take_boundary-requires
-take_boundary-requires c =
-    let fits = c.requires.splittable in
-    record { boundary_needs = part_under fits c.take_part.ensures; blank = blank }
+pub boundary_of-requires : goal.boundary_of-requires
+boundary_of-requires c = part_under c.requires.splittable (part (goal.at.boundary_of-requires c).In-Some)
 
-pub returns-then-not-take_boundary : goal.returns-then-not-take_boundary
-returns-then-not-take_boundary c =
-    wrong_divider_lem _ _ _ _ _ _ _ _ c.take_part.ensures c.if-not-take_part.false-raw c.take_boundary.ensures c.if-not-take_boundary.true-raw
-
-pub set_divider-requires : goal.set_divider-requires
-set_divider-requires c =
-    let fits = c.requires.splittable in
-    new_column fits c.take_part.ensures c.take_boundary.ensures
-
-pub halve-requires : goal.halve-requires
-halve-requires c =
-    let fits = c.requires.splittable in
-    two_halves fits c.take_part.ensures
-
-pub repeat_row-requires : goal.repeat_row-requires
-repeat_row-requires c =
-    let fits = c.requires.splittable in
-    new_row fits
+pub returns-in_default-boundary_of : goal.returns-in_default-boundary_of
+returns-in_default-boundary_of c = wrong_divider_lem _ _ _ _ _ _ _ _ (part (goal.at.returns-in_default-boundary_of c).In-Some) c.in_default-boundary_of.ensures
 
 pub returns : goal.returns
 returns c =
-    let fits = c.requires.splittable in
-    all-stored _ _ _ _ _ _ _ _ c.take_part.ensures c.if-not-take_part.false-raw c.take_boundary.ensures fits.least
-    c.if-not-take_boundary.false-raw c.set_divider.ensures c.halve.ensures c.repeat_row.ensures
+    all-stored _ _ _ _ _ _ _ _ (part (goal.at.returns c).In-Some) c.in-Some-boundary_of.ensures c.requires.splittable.least
+    c.set_divider.ensures c.halve.ensures c.repeat_row.ensures

@@ -1,0 +1,2 @@
+-- The places of the calls
+pub mod Places
