@@ -18,7 +18,7 @@
  * - During a call nothing else writes to what is passed to it, or reads what it writes to. No state is kept between calls, so calls on
  *   different patterns may run at once in several threads, and calls that only read may share a pattern.
  * - A call takes no heap. Of stack, mbyasoka_carry takes less than 32 KiB, any other less than 2 KiB; docs/SPEED.md has the figures.
- * - Of the C library the archive for x86-64 needs memcpy, memmove and memset alone.
+ * - Of the C library the archive for x86-64 needs memcpy and memset alone.
  */
 #ifndef MBYASOKA_H
 #define MBYASOKA_H

@@ -21,3 +21,4 @@ mod Trials
 mod Rewritings
 mod Carried
 mod CarryAnswers
+pub mod Copying

@@ -13,7 +13,7 @@ ghost use Rattle.engine.specs.Source.{ReadFrom};
 ghost use Rattle.engine.specs.Carrying.{number_of, rewritten, Rewritable, Carriable};
 
 use crate::apply::apply;
-use crate::chains::is_chain;
+use crate::chains::{copy_chain, is_chain};
 use form::operators::form_of_operator;
 use good::refusal_of_pattern;
 use maths::{SIDE, SIZE};
@@ -65,7 +65,7 @@ fn write_carried(o: Operator, n: u8, d: u8, chain: &[i32], out: &mut [i32])
     requires { Rewritable o n d chain.now out.old }
     ensures { out.new ≡ table 96 (rewritten o n d (coefficients chain.now)) }
 {
-    out.copy_from_slice(chain);
+    copy_chain(out, chain);
     match o {
         Operator::Split { dim, cell, .. } => {
             if d == dim {

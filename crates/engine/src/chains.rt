@@ -16,3 +16,13 @@ pub(crate) fn is_chain(limit: u32, n: u8, chain: &[i32]) -> bool
         }
     })
 }
+
+// One chain becomes another: by a loop, since `copy_from_slice` would ask for `memmove` of the C library.
+pub(crate) fn copy_chain(to: &mut [i32], from: &[i32])
+    requires { length to.old ≡ length from.now }
+    ensures { to.new ≡ from.now }
+{
+    for i in 0..from.len() {
+        to[i] = from[i];
+    }
+}
