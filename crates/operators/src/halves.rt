@@ -1,21 +1,27 @@
 // The stores of a split: the dividing cell's column, the two halves, and the row of the new half.
-ghost use Rattle.std.specs.Prelude.{◌≡◌, cond, eqb};
+ghost use Rattle.std.specs.Prelude.{◌≡◌, cond, eqb, pos};
+ghost use Rattle.maths.specs.Tests.{is_zero};
 ghost use Rattle.grid.specs.Grid.{LineFor, over, with_column, copied_row};
 ghost use Rattle.operators.specs.Split.{Halvable, Halved, Dividable, Repeatable, with_rest};
 
 use grid::changes::{copy_row, set_column, set_entry};
 use maths::SIDE;
 
-// The taken part is left out of column c.
+// An entry, unless it is taken off.
+fn rest8(x: i8, taken: i8) -> i8
+    ensures { result ≡ cond (is_zero taken) x (pos 0) }
+{
+    if taken == 0 { x } else { 0 }
+}
+
+// The taken part is left out of column c. Each entry is stored anew: a store under a test would be a branch a row.
 fn leave_rest(m: &mut [i8], c: usize, taken: &[i8])
     requires { LineFor m.old c taken.now }
     ensures { m.new ≡ over (with_rest c taken.now) m.old }
 {
     let from = SIDE * c;
     for (i, x) in taken.iter().enumerate() {
-        if *x != 0 {
-            m[from + i] = 0;
-        }
+        m[from + i] = rest8(m[from + i], *x);
     }
 }
 

@@ -29,15 +29,15 @@ fn is_between(d: &[i8], t: usize) -> bool
 }
 
 // How many faces columns a and b share.
-fn shared(d: &[i8], a: usize, b: usize) -> usize
+fn shared(d: &[i8], a: usize, b: usize) -> u8
     requires { Lines d.now a b }
     ensures { result ≡ shared_by (entries d.now) a b }
 {
     column(d, a)
         .iter()
         .zip(column(d, b))
-        .filter(|&(x, y)| *x != 0 && *y != 0)
-        .count()
+        .map(|(x, y)| ((*x != 0) & (*y != 0)) as u8)
+        .sum()
 }
 
 // The two cells that cell t lies between, the lower first, in the matrix that has its row; or why they cannot be merged.
