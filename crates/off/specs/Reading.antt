@@ -1,9 +1,8 @@
 -- What the code that reads an OFF text needs and answers, in the words of the definitions.
-use Rattle.std.specs.Prelude.{◌≡◌, true, List, ℕ, ◌+◌, ◌-◌, ◌*◌, ◌<◌, ◌≤◌, ℤ, length, get_or, take, Option, None, Some}
+use Rattle.std.specs.Prelude.{◌≡◌, true, List, ℕ, ◌≤◌, ℤ, length, take, Option, None, Some}
 use Rattle.std.specs.Borrow.{Bor}
-use Rattle.std.specs.List.{fold}
 use Rattle.off.specs.declared.lines.RingRead.{RingRead}
-use Rattle.off.specs.Words.{Text, Found, none, found, is_digit}
+use Rattle.off.specs.Words.{Text, Found, none, found}
 use Rattle.off.specs.Plain.{Ring}
 use Rattle.off.specs.Rings.{corners_below}
 
@@ -16,15 +15,6 @@ found_of (Some (x, rest)) = found x rest.now
 abbrev pub keyword_found : Option (Bor Text) → Found ℕ
 keyword_found None = none
 keyword_found (Some rest) = found 0 rest.now
-
--- the value of digits after those of the value n
-abbrev pub value_from : ℕ → List ℕ → ℕ
-value_from n digits = fold (λ n b. 10 * n + (b - 0x30)) n digits
-
--- at most seven digits
-pub record FewDigits (digits : List ℕ) : Type 0 where
-  pub few : length digits ≤ 7
-  pub all : (k : ℕ) → k < length digits → is_digit (get_or digits k 0) ≡ true
 
 -- coordinates that were read stand in the list
 abbrev pub CoordinatesTaken : Found (List ℤ) → Option (Bor Text) → List ℤ → Type 0

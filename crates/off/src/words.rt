@@ -2,7 +2,7 @@
 ghost use Rattle.std.specs.Prelude.{◌≡◌, ◌≤◌, pos, length};
 ghost use Rattle.std.specs.List.{prefix_len};
 ghost use Rattle.off.specs.Words.{is_blank, skipped, is_digit, word_ends, number_here, natural, limited, coordinate, keyword};
-ghost use Rattle.off.specs.Reading.{found_of, keyword_found, FewDigits, value_from};
+ghost use Rattle.off.specs.Reading.{found_of, keyword_found};
 
 // How far from 0 a coordinate may be.
 pub(crate) const FARTHEST: u32 = 1_048_576;
@@ -49,36 +49,27 @@ fn is_digit(b: u8) -> bool
     matches!(b, b'0'..=b'9')
 }
 
-// How many digits are at the front of a text.
-fn digits(s: &[u8]) -> usize
-    ensures within { result ≤ length s.now }
-    ensures are { result ≡ prefix_len is_digit s.now }
-{
-    s.iter().take_while(|b| is_digit(**b)).count()
-}
-
-// The value of at most seven digits.
-fn value_of(digits: &[u8]) -> u32
-    requires { FewDigits digits.now }
-    ensures { result ≡ value_from 0 digits.now }
-{
-    let mut n: u32 = 0;
-    for b in digits {
-        n = 10 * n + u32::from(*b - b'0');
-    }
-    n
-}
-
-// The number whose digits begin at the front.
+// The number whose digits begin at the front. No digit after the eighth is looked at.
 fn number_here(s: &[u8]) -> Option<(u32, &[u8])>
     ensures { found_of result ≡ number_here s.now }
 {
-    let count = digits(s);
-    let (digits, rest) = s.split_at(count);
-    if count < 1 || 7 < count || !word_ends(rest) {
+    let mut n: u32 = 0;
+    let mut count = 0;
+    for b in s {
+        if !is_digit(*b) {
+            break;
+        }
+        if count == 7 {
+            return None;
+        }
+        n = 10 * n + u32::from(*b - b'0');
+        count += 1;
+    }
+    let rest = &s[count..];
+    if count < 1 || !word_ends(rest) {
         return None;
     }
-    Some((value_of(digits), rest))
+    Some((n, rest))
 }
 
 // The number after blanks.
