@@ -8,7 +8,7 @@ ghost use Rattle.off.specs.Writing.{NumberFits, SignedFits, CornerFits, CornersF
 
 use crate::ends::Ends;
 use crate::walks::go_round;
-use buffer::decimal::put_decimal;
+use buffer::decimal::{put_decimal, put_short};
 use buffer::{put, put_all};
 use grid::tests::column_count;
 use maths::SIDE;
@@ -19,7 +19,7 @@ fn put_number(out: &mut [u8], at: usize, n: u32) -> usize
     requires { NumberFits n out.old at }
     ensures { Put out.old at (number n) result out.new }
 {
-    put_decimal(out, at, n)
+    put_short(out, at, n)
 }
 
 // z in decimal, with a sign where it is below 0.

@@ -2,8 +2,8 @@
 use Rattle.off.proofs.places.Numbers.{number-is}
 use Rattle.off.proofs.places.put_number.Goals as goal
 
-pub put_decimal-requires : goal.put_decimal-requires
-put_decimal-requires c = rw (number-is c.args.n c.requires.small) c.requires.room
+pub put_short-requires : goal.put_short-requires
+put_short-requires c = rw (number-is c.args.n c.requires.small) c.requires.room
 
 pub returns : goal.returns
-returns c = rw (← number-is c.args.n c.requires.small) c.put_decimal.ensures
+returns c = rw (← number-is c.args.n c.requires.small) c.put_short.ensures
