@@ -11,7 +11,12 @@ pub(crate) fn number_length(n: u32) -> usize
     requires { n < 10_000_000 }
     ensures { result ≡ length (number n) }
 {
-    n.checked_ilog10().unwrap_or(0) as usize + 1
+    1 + (10 <= n) as usize
+        + (100 <= n) as usize
+        + (1_000 <= n) as usize
+        + (10_000 <= n) as usize
+        + (100_000 <= n) as usize
+        + (1_000_000 <= n) as usize
 }
 
 // How long z is with its sign.
