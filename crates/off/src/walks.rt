@@ -35,7 +35,7 @@ fn fill_next(m2: &[i8], j: usize, ends: &[Ends], next: &mut [u8])
     requires { NextRoom m2.now j ends.now next.old }
     ensures { next.new ≡ table 97 (next_by m2.now j ends.now) }
 {
-    for (&seam, &z) in ends.iter().zip(&m2[SIDE * j..]) {
+    for (&seam, &z) in ends.iter().zip(&m2[SIDE * j..SIDE * j + ends.len()]) {
         set_next(next, seam, z);
     }
 }
