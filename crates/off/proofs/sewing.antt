@@ -6,7 +6,7 @@ pub mod RingsSewn
 pub mod SewnStored
 pub mod SeamAdded
 pub mod SeamMet
-pub mod SidesYielded
+pub mod SidesInTurn
 pub mod SidesJoined
 pub mod SideNumbers
 pub mod SidesPut

@@ -48,10 +48,13 @@ fn meet_sides(c: Counts, ring: &[u8], m1: &mut [i8], m3: &mut [i8]) -> Result<Co
 {
     let mut counts = c;
     let (first, others) = ring.split_at(1);
-    for (tail, head) in ring.iter().zip(others.iter().chain(first)) {
-        counts = meet_side(counts, *tail as usize, *head as usize, m1, m3)?;
+    let mut tail = first[0] as usize;
+    for corner in others {
+        let head = *corner as usize;
+        counts = meet_side(counts, tail, head, m1, m3)?;
+        tail = head;
     }
-    Ok(counts)
+    meet_side(counts, tail, first[0] as usize, m1, m3)
 }
 
 // The seam that the number z names stands in column j, with z's sign.
@@ -72,11 +75,13 @@ fn put_sides(ring: &[u8], m3: &[i8], m2: &mut [i8], j: usize)
     ensures { m2.new ≡ over (with_sides ring.now (entries m3.now) j) m2.old }
 {
     let (first, others) = ring.split_at(1);
-    for (tail, head) in ring.iter().zip(others.iter().chain(first)) {
-        let a = *tail as usize;
-        let b = *head as usize;
-        put_side(m2, j, m3[SIDE * b + a]);
+    let mut tail = first[0] as usize;
+    for corner in others {
+        let head = *corner as usize;
+        put_side(m2, j, m3[SIDE * head + tail]);
+        tail = head;
     }
+    put_side(m2, j, m3[SIDE * first[0] as usize + tail]);
 }
 
 // A ring is sewn on whose corners are corners of the pattern.

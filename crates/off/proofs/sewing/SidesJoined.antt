@@ -1,7 +1,7 @@
 -- The sides of a ring in the matrices: what is left to meet, from where the loop stands, is the whole.
 use mathlib.Core.Path.{◌≡◌, refl, sym, ◌∙◌, ap}
 use mathlib.Core.List.{List}
-use Prim.Native.Nat.{ℕ, ◌+◌, ◌-◌, ◌<◌, ◌≤◌}
+use Prim.Native.Nat.{ℕ, suc, ◌+◌, ◌-◌, ◌<◌, ◌≤◌}
 use native.Mathlib.Omega.{arith}
 use lib.IntN.{ℤ}
 use lib.ListN.{length}
@@ -115,3 +115,10 @@ module _ {c : Counts} {r : Ring} {m1₀ m3₀ : List ℤ} (R : RingSeams c r m1�
             is = (sym S.rest ∙ sym (repeat-ended (meet_side r) side_done (drawn counts m1 m2, l) none refl), S.lies);
           };
     }
+
+  -- and at the last side
+  pub going_ends : {counts : Counts} {m1 m3 : List ℤ} {l : ℕ} → Going r c m1₀ counts m1 m3 l → suc l ≡ length r →
+      {a b : ℕ} → a ≡ corner_at r l → b ≡ next_at r l →
+      (x : Result Counts Refusal) {m1' m3' : List ℤ} → Joined (meet a b) counts m1 x m1' m3' → Joined (meet_sides r) c m1₀ x m1' m3'
+  going_ends G e ea eb (Ok counts') J = going_done (going_on G (omega arith) ea eb J) (omega arith)
+  going_ends G e ea eb (Err x) J = going_stops G (omega arith) ea eb J

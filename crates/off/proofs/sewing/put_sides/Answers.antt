@@ -1,48 +1,72 @@
 -- `put_sides` puts side after side, and the last leaves the chain of them all.
-use Rattle.std.proofs.Common.{◌<◌, arith, rules, length}
-use Rattle.std.proofs.lemmas.List.{length_push}
-use Rattle.std.proofs.lemmas.Iterator.Consumers.{YieldsList-turn, YieldsList-end}
-use Rattle.off.proofs.sewing.SidesYielded.{Side, side_here, sides_yielded, all_round}
+use Rattle.std.proofs.Common.{◌≡◌, ◌<◌, suc, arith, ap, length, get_or, drop}
+use Rattle.off.specs.Rings.{next_at}
+use Rattle.off.proofs.sewing.SidesInTurn.{first-corner, next-corner, corner_on, next-first, before_last, at_last}
 use Rattle.off.proofs.sewing.SidesPut.{stand-none, stand-all, corner-low, next_low, side_room, stand_more}
 use Rattle.off.proofs.sewing.put_sides.Goals as goal
-use Rattle.off.proofs.sewing.put_sides.Goals.{In-Some}
+use Rattle.off.proofs.sewing.put_sides.Goals.{In-loop-corner, After-loop-corner}
+
+pub loop-corner-init : goal.loop-corner-init
+loop-corner-init c = record { from = rw c.split_at.ensures.front (first-corner c.args.ring.now); stand = stand-none c.requires }
 
 -- the side that is next
-side : (c : In-Some) → Side c.args.ring.now (length c.loop-tail.yielded) c.in-Some.tail.now c.in-Some.head.now
-side c =
-    side_here c.args.ring.now c.requires.long
-    (YieldsList-turn (sides_yielded c.args.ring.now (cc) (cc) (cc) (cc) (cc))
-    c.loop-tail.yielded c.loop-tail.tail-iterator c.loop-tail.yielded_by c.next.result c.next.new.self (c.in-Some.tail, c.in-Some.head)
-    c.in-Some.is c.next.ensures.steps)
+module _ (c : In-loop-corner) where
+  inside : suc c.loop-corner.corner-index < length c.args.ring.now
+  inside = before_last c.args.ring.now (rw c.split_at.ensures.back at c.loop-corner-test.true)
 
--- its corners are below 96
-low : (c : In-Some) → (c.in-Some.tail.now < 96) × (c.in-Some.head.now < 96)
-low c =
-    let S = side c in
-    (corner-low c.requires c.loop-tail.invariant.2 S.inside S.tail S.head, next_low c.requires c.loop-tail.invariant.2 S.inside S.tail S.head)
+  head : get_or c.split_at.result.1.now c.loop-corner.corner-index 0 ≡ next_at c.args.ring.now c.loop-corner.corner-index
+  head = rw c.split_at.ensures.back (next-corner c.args.ring.now (rw c.split_at.ensures.back at c.loop-corner-test.true))
 
-pub loop-tail-init : goal.loop-tail-init
-loop-tail-init c = (search rules, search rules, stand-none c.requires)
+  low : (c.loop-corner.tail < 96) × (get_or c.split_at.result.1.now c.loop-corner.corner-index 0 < 96)
+  low =
+      let I = c.loop-corner.invariant in
+      (corner-low c.requires I.stand (omega (arith, inside)) I.from head, next_low c.requires I.stand (omega (arith, inside)) I.from head)
 
 pub put_side-requires : goal.put_side-requires
 put_side-requires c =
-    let S = side (goal.at.put_side-requires c).In-Some in
-    side_room c.requires c.loop-tail.invariant.2 S.inside S.tail S.head
+    let d = (goal.at.put_side-requires c).In-loop-corner in
+    let I = c.loop-corner.invariant in
+    side_room c.requires I.stand (omega (arith, inside d)) I.from (head d)
 
-pub loop-tail-preserved : goal.loop-tail-preserved
-loop-tail-preserved c =
-    let S = side (goal.at.loop-tail-preserved c).In-Some in (
-      search rules,
-      search rules,
-      rw length_push (stand_more c.requires c.loop-tail.invariant.2 S.inside S.tail S.head c.put_side.ensures),
-    )
+pub loop-corner-preserved : goal.loop-corner-preserved
+loop-corner-preserved c =
+    let d = (goal.at.loop-corner-preserved c).In-loop-corner in
+    let I = c.loop-corner.invariant in
+    record {
+      from = rw c.split_at.ensures.back (corner_on c.args.ring.now (rw c.split_at.ensures.back at c.loop-corner-test.true));
+      stand = stand_more c.requires I.stand (omega (arith, inside d)) I.from (head d) c.put_side.ensures;
+    }
+
+-- the last side
+module _ (c : After-loop-corner) where
+  last : c.loop-corner.corner-index ≡ length (drop 1 c.args.ring.now)
+  last = let back = c.split_at.ensures.back in omega (arith, ap length back)
+
+  closes : suc c.loop-corner.corner-index ≡ length c.args.ring.now
+  closes = at_last c.args.ring.now last c.requires.long
+
+  back_to : get_or c.split_at.result.0.now 0 0 ≡ next_at c.args.ring.now c.loop-corner.corner-index
+  back_to = rw c.split_at.ensures.front (next-first c.args.ring.now last c.requires.long)
+
+  low_last : (c.loop-corner.tail < 96) × (get_or c.split_at.result.0.now 0 0 < 96)
+  low_last =
+      let I = c.loop-corner.invariant in
+      (corner-low c.requires I.stand (omega (arith, closes)) I.from back_to, next_low c.requires I.stand (omega (arith, closes)) I.from back_to)
+
+pub put_side-requires-2 : goal.put_side-requires-2
+put_side-requires-2 c =
+    let d = (goal.at.put_side-requires-2 c).After-loop-corner in
+    let I = c.loop-corner.invariant in
+    side_room c.requires I.stand (omega (arith, closes d)) I.from (back_to d)
 
 pub returns : goal.returns
 returns c =
-    let e = YieldsList-end (sides_yielded c.args.ring.now (cc) (cc) (cc) (cc) (cc))
-    c.loop-tail.yielded c.loop-tail.tail-iterator c.loop-tail.yielded_by c.next.result c.next.new.self c.in-None.is c.next.ensures.steps in
-    let all = all_round c.args.ring.now c.requires.long e.1 in
-    stand-all c.requires c.loop-tail.invariant.2 (omega arith)
+    let d = (goal.at.returns c).After-loop-corner in
+    let I = c.loop-corner.invariant in
+    stand-all c.requires (stand_more c.requires I.stand (omega (arith, closes d)) I.from (back_to d) c.put_side-2.ensures) (omega (arith, closes d))
 
-pub bounds-m3-b : goal.bounds-m3-b
-bounds-m3-b c = omega (arith, low (goal.at.bounds-m3-b c).In-Some)
+pub bounds-m3-head : goal.bounds-m3-head
+bounds-m3-head c = omega (arith, c.requires.size3, low (goal.at.bounds-m3-head c).In-loop-corner)
+
+pub bounds-m3-first : goal.bounds-m3-first
+bounds-m3-first c = omega (arith, c.requires.size3, low_last (goal.at.bounds-m3-first c).After-loop-corner)
