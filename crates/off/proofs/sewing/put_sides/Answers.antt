@@ -1,72 +1,63 @@
 -- `put_sides` puts side after side, and the last leaves the chain of them all.
-use Rattle.std.proofs.Common.{◌≡◌, ◌<◌, suc, arith, ap, length, get_or, drop}
-use Rattle.off.specs.Rings.{next_at}
-use Rattle.off.proofs.sewing.SidesInTurn.{first-corner, next-corner, corner_on, next-first, before_last, at_last}
+use Rattle.std.proofs.Common.{◌≡◌, arith, length}
+use Rattle.off.proofs.sewing.SidesInTurn.{Split, from_first, inside, to_other, to_next, closing, to_first}
 use Rattle.off.proofs.sewing.SidesPut.{stand-none, stand-all, corner-low, next_low, side_room, stand_more}
 use Rattle.off.proofs.sewing.put_sides.Goals as goal
-use Rattle.off.proofs.sewing.put_sides.Goals.{In-loop-corner, After-loop-corner}
+use Rattle.off.proofs.sewing.put_sides.Goals.{At-loop-corner, After-loop-corner}
+
+-- how the ring is split
+parts : (c : At-loop-corner) → Split c.args.ring.now c.split_at.result.0.now c.split_at.result.1.now
+parts c = record { some = c.requires.long; front = c.split_at.ensures.front; back = c.split_at.ensures.back }
 
 pub loop-corner-init : goal.loop-corner-init
-loop-corner-init c = record { from = rw c.split_at.ensures.front (first-corner c.args.ring.now); stand = stand-none c.requires }
+loop-corner-init c = record { from = from_first c.args.ring.now c.split_at.ensures.front; stand = stand-none c.requires }
 
--- the side that is next
-module _ (c : In-loop-corner) where
-  inside : suc c.loop-corner.corner-index < length c.args.ring.now
-  inside = before_last c.args.ring.now (rw c.split_at.ensures.back at c.loop-corner-test.true)
-
-  head : get_or c.split_at.result.1.now c.loop-corner.corner-index 0 ≡ next_at c.args.ring.now c.loop-corner.corner-index
-  head = rw c.split_at.ensures.back (next-corner c.args.ring.now (rw c.split_at.ensures.back at c.loop-corner-test.true))
-
-  low : (c.loop-corner.tail < 96) × (get_or c.split_at.result.1.now c.loop-corner.corner-index 0 < 96)
-  low =
-      let I = c.loop-corner.invariant in
-      (corner-low c.requires I.stand (omega (arith, inside)) I.from head, next_low c.requires I.stand (omega (arith, inside)) I.from head)
+pub bounds-m3-head : goal.bounds-m3-head
+bounds-m3-head c =
+    let S = parts (goal.at.bounds-m3-head c).At-loop-corner in
+    let h = c.loop-corner-test.true in
+    let I = c.loop-corner.invariant in
+    let low = corner-low c.requires I.stand (omega (arith, inside S h)) I.from (to_next S h) in
+    let low_next = next_low c.requires I.stand (omega (arith, inside S h)) I.from (to_next S h) in
+    omega (arith, c.requires.size3)
 
 pub put_side-requires : goal.put_side-requires
 put_side-requires c =
-    let d = (goal.at.put_side-requires c).In-loop-corner in
+    let S = parts (goal.at.put_side-requires c).At-loop-corner in
+    let h = c.loop-corner-test.true in
     let I = c.loop-corner.invariant in
-    side_room c.requires I.stand (omega (arith, inside d)) I.from (head d)
+    side_room c.requires I.stand (omega (arith, inside S h)) I.from (to_next S h)
 
 pub loop-corner-preserved : goal.loop-corner-preserved
 loop-corner-preserved c =
-    let d = (goal.at.loop-corner-preserved c).In-loop-corner in
+    let S = parts (goal.at.loop-corner-preserved c).At-loop-corner in
+    let h = c.loop-corner-test.true in
     let I = c.loop-corner.invariant in
-    record {
-      from = rw c.split_at.ensures.back (corner_on c.args.ring.now (rw c.split_at.ensures.back at c.loop-corner-test.true));
-      stand = stand_more c.requires I.stand (omega (arith, inside d)) I.from (head d) c.put_side.ensures;
-    }
+    record { from = to_other S h; stand = stand_more c.requires I.stand (omega (arith, inside S h)) I.from (to_next S h) c.put_side.ensures }
 
--- the last side
-module _ (c : After-loop-corner) where
-  last : c.loop-corner.corner-index ≡ length (drop 1 c.args.ring.now)
-  last = let back = c.split_at.ensures.back in omega (arith, ap length back)
+-- all others were come to
+all : (c : After-loop-corner) → c.loop-corner.corner-index ≡ length c.split_at.result.1.now
+all c = omega arith
 
-  closes : suc c.loop-corner.corner-index ≡ length c.args.ring.now
-  closes = at_last c.args.ring.now last c.requires.long
-
-  back_to : get_or c.split_at.result.0.now 0 0 ≡ next_at c.args.ring.now c.loop-corner.corner-index
-  back_to = rw c.split_at.ensures.front (next-first c.args.ring.now last c.requires.long)
-
-  low_last : (c.loop-corner.tail < 96) × (get_or c.split_at.result.0.now 0 0 < 96)
-  low_last =
-      let I = c.loop-corner.invariant in
-      (corner-low c.requires I.stand (omega (arith, closes)) I.from back_to, next_low c.requires I.stand (omega (arith, closes)) I.from back_to)
+pub bounds-m3-first : goal.bounds-m3-first
+bounds-m3-first c =
+    let S = parts (goal.at.bounds-m3-first c).At-loop-corner in
+    let e = all (goal.at.bounds-m3-first c).After-loop-corner in
+    let I = c.loop-corner.invariant in
+    let low = corner-low c.requires I.stand (omega (arith, closing S e)) I.from (to_first S e) in
+    let low_next = next_low c.requires I.stand (omega (arith, closing S e)) I.from (to_first S e) in
+    omega (arith, c.requires.size3)
 
 pub put_side-requires-2 : goal.put_side-requires-2
 put_side-requires-2 c =
-    let d = (goal.at.put_side-requires-2 c).After-loop-corner in
+    let S = parts (goal.at.put_side-requires-2 c).At-loop-corner in
+    let e = all (goal.at.put_side-requires-2 c).After-loop-corner in
     let I = c.loop-corner.invariant in
-    side_room c.requires I.stand (omega (arith, closes d)) I.from (back_to d)
+    side_room c.requires I.stand (omega (arith, closing S e)) I.from (to_first S e)
 
 pub returns : goal.returns
 returns c =
-    let d = (goal.at.returns c).After-loop-corner in
+    let S = parts (goal.at.returns c).At-loop-corner in
+    let e = all (goal.at.returns c).After-loop-corner in
     let I = c.loop-corner.invariant in
-    stand-all c.requires (stand_more c.requires I.stand (omega (arith, closes d)) I.from (back_to d) c.put_side-2.ensures) (omega (arith, closes d))
-
-pub bounds-m3-head : goal.bounds-m3-head
-bounds-m3-head c = omega (arith, c.requires.size3, low (goal.at.bounds-m3-head c).In-loop-corner)
-
-pub bounds-m3-first : goal.bounds-m3-first
-bounds-m3-first c = omega (arith, c.requires.size3, low_last (goal.at.bounds-m3-first c).After-loop-corner)
+    stand-all c.requires (stand_more c.requires I.stand (omega (arith, closing S e)) I.from (to_first S e) c.put_side-2.ensures) (omega (arith, closing S e))
