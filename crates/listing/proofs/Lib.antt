@@ -1,8 +1,6 @@
 -- The texts of numbers and of faces
 mod Decimals
 mod Faces
--- Which stops have a place
-mod Stops
 -- Lines of columns, one after the other
 mod Columns
 -- The printed result by its lines

@@ -1,9 +1,9 @@
 // Each line of the printed result, put at a place of a buffer; the answer is the place after it.
-ghost use Rattle.std.specs.Prelude.{[], ◌∷◌, ◌++◌, ◌+◌, ◌≤◌, length};
+ghost use Rattle.std.specs.Prelude.{◌≡◌, [], ◌∷◌, ◌++◌, ◌+◌, ◌≤◌, length};
 ghost use Rattle.maths.specs.Tables.{column};
 ghost use Rattle.maths.specs.Buffers.{Put};
+ghost use Rattle.rules.specs.Form.{is_fault};
 ghost use Rattle.rules.specs.Mesh.{each_face, one_face};
-ghost use Rattle.rules.specs.Told.{stop_number, stop_place, stopped_number, stopped_place};
 ghost use Rattle.rules.specs.Printed.{decimal, printed_mesh, seam_line, signed_face, cell_line};
 ghost use Rattle.listing.specs.Lines.{stop_text, ran_line, cells_line, euler_line, PutWithin, PlaceSmall, ColumnRoom};
 
@@ -12,7 +12,6 @@ use buffer::{put, put_all};
 use grid::tests::column_last;
 use maths::SIDE;
 use rules::counts::Counts;
-use rules::refusals::{ACCEPTED, Stop};
 
 // A label and n in decimal.
 fn put_labelled(out: &mut [u8], at: usize, label: &[u8], n: u16) -> usize
@@ -23,50 +22,45 @@ fn put_labelled(out: &mut [u8], at: usize, label: &[u8], n: u16) -> usize
     put_decimal(out, next, n)
 }
 
-// The number of what stopped a call, and the place of a fault.
-fn put_stop(out: &mut [u8], at: usize, stop: Stop) -> usize
-    requires at_in_bounds { at + 23 ≤ length out.old }
-    requires place_small { PlaceSmall (stop_number stop) (stop_place stop) }
-    ensures { PutWithin 23 out.old at (stop_text (stop_number stop) (stop_place stop)) result out.new }
+// Whether a refusal is a fault of the form, which has a place.
+fn is_fault(refusal: u8) -> bool
+    ensures { result ≡ is_fault refusal }
 {
-    let next = put_labelled(out, at, b" refusal ", u8::from(stop).into());
-    match stop.place() {
-        Some(place) => put_labelled(out, next, b" at ", place as u16),
-        None => next,
-    }
+    matches!(refusal, 3 | 4 | 14)
 }
 
-// The same of a call that may not have been stopped.
-fn put_ended(out: &mut [u8], at: usize, ended: Result<(), Stop>) -> usize
+// A refusal, and the place of a fault.
+fn put_refusal(out: &mut [u8], at: usize, refusal: u8, place: u32) -> usize
     requires at_in_bounds { at + 23 ≤ length out.old }
-    requires place_small { PlaceSmall (stopped_number ended) (stopped_place ended) }
-    ensures { PutWithin 23 out.old at (stop_text (stopped_number ended) (stopped_place ended)) result out.new }
+    requires place_small { PlaceSmall refusal place }
+    ensures { PutWithin 23 out.old at (stop_text refusal place) result out.new }
 {
-    match ended {
-        Ok(()) => put_labelled(out, at, b" refusal ", ACCEPTED.into()),
-        Err(stop) => put_stop(out, at, stop),
+    let next = put_labelled(out, at, b" refusal ", refusal.into());
+    if is_fault(refusal) {
+        return put_labelled(out, next, b" at ", place as u16);
     }
+    next
 }
 
-// How many operators ran, and what stopped the script.
-pub(crate) fn line_ran(out: &mut [u8], at: usize, ran: u16, ended: Result<(), Stop>) -> usize
+// How many operators ran, the refusal, and the place of a fault.
+pub(crate) fn line_ran(out: &mut [u8], at: usize, ran: u16, refusal: u8, place: u32) -> usize
     requires at_in_bounds { at + 40 ≤ length out.old }
-    requires place_small { PlaceSmall (stopped_number ended) (stopped_place ended) }
-    ensures { PutWithin 40 out.old at (ran_line ran (stopped_number ended) (stopped_place ended)) result out.new }
+    requires place_small { PlaceSmall refusal place }
+    ensures { PutWithin 40 out.old at (ran_line ran refusal place) result out.new }
 {
     let mut next = put_labelled(out, at, b"ran ", ran);
-    next = put_ended(out, next, ended);
+    next = put_refusal(out, next, refusal, place);
     put(out, next, b'\n')
 }
 
-// What is wrong with a mesh.
-pub fn line_mesh(out: &mut [u8], at: usize, stop: Stop) -> usize
+// The refusal of a mesh, and the place of a fault.
+pub fn line_mesh(out: &mut [u8], at: usize, refusal: u8, place: u32) -> usize
     requires at_in_bounds { at + 32 ≤ length out.old }
-    requires place_small { PlaceSmall (stop_number stop) (stop_place stop) }
-    ensures { PutWithin 32 out.old at (printed_mesh (stop_number stop) (stop_place stop)) result out.new }
+    requires place_small { PlaceSmall refusal place }
+    ensures { PutWithin 32 out.old at (printed_mesh refusal place) result out.new }
 {
     let mut next = put_all(out, at, b"mesh");
-    next = put_stop(out, next, stop);
+    next = put_refusal(out, next, refusal, place);
     put(out, next, b'\n')
 }
 

@@ -2,13 +2,11 @@
 ghost use Rattle.std.specs.Prelude.{[], ◌∷◌};
 ghost use Rattle.maths.specs.Buffers.{Put};
 ghost use Rattle.rules.specs.Counts.{count_of};
-ghost use Rattle.rules.specs.Told.{stopped_number, stopped_place};
 ghost use Rattle.rules.specs.Printed.{seam_line, cell_line};
 ghost use Rattle.listing.specs.Lines.{PlaceSmall};
 ghost use Rattle.listing.specs.Pieces.{column_lines, run_text, LinesRoom};
 
 use crate::lines::{line_cell, line_cells, line_euler, line_ran, line_seam};
-use rules::answers::ScriptRun;
 use rules::pattern::View;
 
 // A line for each of the n seams, at a place.
@@ -24,12 +22,12 @@ fn put_seams(out: &mut [u8], at: usize, n: u8, m: &[i8]) -> usize
 }
 
 // How a script ended, the counts, the Euler number z and the seams.
-pub fn put_run(out: &mut [u8], run: ScriptRun, z: i16, p: View) -> usize
+pub fn put_run(out: &mut [u8], ran: u16, refusal: u8, place: u32, z: i16, p: View) -> usize
     requires room { LinesRoom 32 p.m1.now (count_of p.counts 1) out.old 104 }
-    requires place_small { PlaceSmall (stopped_number run.ended) (stopped_place run.ended) }
-    ensures { Put out.old 0 (run_text run.ran (stopped_number run.ended) (stopped_place run.ended) p.entry.counts z p.entry.m1.now) result out.new }
+    requires place_small { PlaceSmall refusal place }
+    ensures { Put out.old 0 (run_text ran refusal place p.entry.counts z p.entry.m1.now) result out.new }
 {
-    let mut next = line_ran(out, 0, run.ran, run.ended);
+    let mut next = line_ran(out, 0, ran, refusal, place);
     next = line_cells(out, next, p.counts);
     next = line_euler(out, next, z);
     put_seams(out, next, p.counts.n[1], p.m1)

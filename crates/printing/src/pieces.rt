@@ -1,7 +1,8 @@
 // The pieces of the printed result, each put at the front of a buffer. The answer is how long the piece is.
-ghost use Rattle.std.specs.Prelude.{◌≡◌, ◌<◌};
+ghost use Rattle.std.specs.Prelude.{◌≡◌, ◌<◌, ◌^◌};
 ghost use Rattle.maths.specs.Buffers.{Put};
 ghost use Rattle.rules.specs.Counts.{count_of};
+ghost use Rattle.rules.specs.Told.{stopped_number, stopped_place};
 ghost use Rattle.listing.specs.Pieces.{LinesRoom};
 ghost use Rattle.printing.specs.Input.{run_told, head_text, letter_of, cells_text, HeadRoom};
 
@@ -10,16 +11,42 @@ use listing::lines::line_mesh;
 use listing::pieces::{put_cells, put_run};
 use rules::counts::Counts;
 use rules::pattern::View;
-use rules::refusals::Stop;
+use rules::refusals::{ACCEPTED, NO_PLACE, Stop};
+
+// The number of what stopped a call, if anything did.
+fn number_of(ended: Result<(), Stop>) -> u8
+    ensures { result ≡ stopped_number ended }
+{
+    match ended {
+        Ok(()) => ACCEPTED,
+        Err(stop) => u8::from(stop),
+    }
+}
+
+// The place of it, the largest number where there is none.
+fn place_of(ended: Result<(), Stop>) -> u32
+    requires { stopped_place ended < 2 ^ 32 }
+    ensures { result ≡ stopped_place ended }
+{
+    match ended.err().and_then(Stop::place) {
+        Some(at) => at as u32,
+        None => NO_PLACE,
+    }
+}
 
 // The refusal of a mesh, or else all that comes before the panels.
+#[tactic(auto, using(crate::proofs::Running::stop_not_0), unfolding(crate::specs::Input::head_text))]
 pub(crate) fn put_head(out: &mut [u8], run: Result<InputRun, Stop>, p: View) -> usize
     requires { HeadRoom (run_told run p.counts) p.m1.now out.old }
     ensures { Put out.old 0 (head_text (run_told run p.entry.counts) p.entry.m1.now) result out.new }
 {
     match run {
-        Err(stop) => line_mesh(out, 0, stop),
-        Ok(run) => put_run(out, run.script, run.euler, p),
+        Err(stop) => line_mesh(out, 0, u8::from(stop), place_of(Err(stop))),
+        Ok(InputRun { script, euler }) => {
+            let refusal = number_of(script.ended);
+            let place = place_of(script.ended);
+            put_run(out, script.ran, refusal, place, euler, p)
+        }
     }
 }
 

@@ -9,4 +9,4 @@ use Rattle.listing.proofs.lines.line_mesh.Goals as goal
 pub returns : goal.returns
 unfolding printed_mesh stop_text
 returns c =
-    record { put = simp append_assoc at (two_pieces c.put_all-next.ensures (two_pieces c.put_stop-next.ensures.put c.put.ensures)); most = omega arith }
+    record { put = simp append_assoc at (two_pieces c.put_all-next.ensures (two_pieces c.put_refusal-next.ensures.put c.put.ensures)); most = omega arith }

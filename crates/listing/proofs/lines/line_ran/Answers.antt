@@ -8,5 +8,5 @@ use Rattle.listing.proofs.lines.line_ran.Goals as goal
 pub returns : goal.returns
 unfolding ran_line stop_text
 returns c =
-    let last = simp append_assoc at (two_pieces c.put_ended-next.ensures.put c.put.ensures) in
+    let last = simp append_assoc at (two_pieces c.put_refusal-next.ensures.put c.put.ensures) in
     record { put = two_pieces c.put_labelled-next.ensures.put last; most = omega arith }
