@@ -6,20 +6,27 @@ use Prim.Native.Nat.{ℕ}
 use lib.IntN.{ℤ}
 use lib.ListN.{take, drop}
 use borrow.Author.Tests.{ne_eqb}
+use Rattle.std.specs.Prelude.{Result}
 use Rattle.maths.specs.Buffers.{Put}
 use Rattle.maths.proofs.Sums.{join-zero}
+use Rattle.rules.specs.declared.pattern.Pattern.{Pattern as LentPattern}
+use Rattle.rules.specs.declared.pattern.View.{View}
+use Rattle.rules.specs.declared.refusals.Stop.{Stop}
 use Rattle.rules.specs.Refusals.{accepted}
-use Rattle.rules.specs.Complex.{Complex, pattern, complex, stored, euler}
+use Rattle.rules.specs.Complex.{Complex, Pattern, pattern, complex, stored, euler}
 use Rattle.rules.specs.Good.{Good}
 use Rattle.rules.specs.Script.{Ended, ended_at}
 use Rattle.rules.specs.Calls.{Lent, lent}
+use Rattle.rules.specs.Lending.{lent_by, seen_by}
 use Rattle.rules.specs.Printed.{cell_lines, printed_mesh, printed_run, printed}
 use Rattle.rules.proofs.Storage.Stored.{complex-stored}
 use Rattle.rules.proofs.Texts.ReadGood.{read_good, mesh_each}
 use Rattle.listing.specs.Pieces.{column_lines, run_text}
 use Rattle.listing.proofs.Printed.{printed-run, printed-listing}
-use Rattle.printing.specs.Input.{Run, no_run, end_of, ran_to, run_input, head_text, panel_text, block_text}
+use Rattle.printing.specs.declared.run.InputRun.{InputRun}
+use Rattle.printing.specs.Input.{Run, no_run, run_told, run_left, end_of, ran_to, run_input, head_text, cells_text, panel_text, block_text}
 use Rattle.printing.proofs.Running.{end_good}
+use Rattle.printing.proofs.Rooms.{told_counts}
 
 -- the three pieces of a run, one after the other
 abbrev pieces : Lent Run → List ℕ
@@ -55,3 +62,17 @@ module _ (input : List ℕ) {run : Run} {m1 m2 m3 : List ℤ}
       take head out1 ++ (take panels out2 ++ take blocks out3) ≡ printed input
   printed_in_pieces put-head put-panels put-blocks =
       rw (put-head.upto, put-panels.upto, put-blocks.upto) (ap pieces run-input ∙ pieces_printed input)
+
+-- The same in the words of the contracts: `run_input` answers r and leaves the pattern p, of which `left` is the view; `put_head` puts the first piece, and
+-- two calls of `put_cells_of` the others.
+module _ (input : List ℕ) (r : Result InputRun Stop) (p : LentPattern) (left : View)
+    (does : run_left r p ≡ run_input (take 65536 input)) (view : seen_by left ≡ lent_by p) where
+  pub put_in_pieces : {out out1 out2 out3 : List ℕ} {head panels blocks : ℕ} →
+      Put out 0 (head_text (run_told r left.counts) left.m1.now) head out1 →
+      Put out1 0 (cells_text 2 left.counts left.m2.now) panels out2 → Put out2 0 (cells_text 3 left.counts left.m3.now) blocks out3 →
+      take head out1 ++ (take panels out2 ++ take blocks out3) ≡ printed input
+  put_in_pieces put-head put-panels put-blocks =
+      let run = run_told r left.counts in
+      let counts = told_counts r left.counts in
+      let same : lent run (seen_by left) ≡ run_input (take 65536 input) = ap (λ (x : Pattern). lent (run_told r x.counts) x) view ∙ does in
+      printed_in_pieces input {run = run} same put-head (rw counts put-panels) (rw counts put-blocks)

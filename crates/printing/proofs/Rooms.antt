@@ -18,7 +18,7 @@ use Rattle.printing.specs.Input.{run_told, HeadRoom}
 use Rattle.printing.proofs.Sizes.{Printable}
 
 -- the counts that are told are those of the pattern
-told_counts : (r : Result InputRun Stop) (c : Counts) → (run_told r c).counts ≡ c
+pub told_counts : (r : Result InputRun Stop) (c : Counts) → (run_told r c).counts ≡ c
 told_counts (Ok x) c = refl
 told_counts (Err stop) c = refl
 
