@@ -2,7 +2,8 @@
 use Rattle.std.specs.Prelude.{Ok, Err}
 use mathlib.Core.Path.{◌≡◌, refl, ap, ◌∙◌}
 use mathlib.Core.List.{List}
-use Prim.Native.Nat.{ℕ}
+use Prim.Native.Nat.{ℕ, ◌<◌}
+use native.Mathlib.Omega.{arith}
 use lib.Dec.{ltb}
 use lib.ListN.{length}
 use Rattle.maths.proofs.Cases.{bool_or}
@@ -18,6 +19,7 @@ use Rattle.rules.specs.Form.{operator_at, lone_operator, faces_of, fault_number,
 use Rattle.rules.specs.Calls.{Lent, lent, applied, applied_left, handed_back, handed_back_of, apply_call}
 use Rattle.rules.proofs.Branches.FirstTests.{both_passed, first-refused}
 use Rattle.rules.proofs.Bytes.Fields.{bad_operator, after_operator_lem}
+use Rattle.rules.proofs.Bytes.Faults.{operator_fault, lone_lies}
 use Rattle.rules.specs.Told.{refusal_number}
 use Rattle.good.specs.Tested.{tested}
 use Rattle.rules.proofs.Branches.Refused.{not_accepted}
@@ -33,6 +35,10 @@ lone_read {s} {o} {next} e =
     (λ t.
     let q : Ok (a.0, a.1) ≡ Ok (o, next) = rw t at a.3 in
     record { at = 0; next = next; form = a.2 ∙ q })
+
+-- and a fault of theirs has a place
+pub lone_placed : (s : List ℕ) {f : Fault} → lone_operator s ≡ Err f → fault_place f < no_place
+lone_placed s e = omega (arith, (operator_fault s (lone_operator s) (lone_lies s) e).near)
 
 module _ (p : Pattern) where
   -- a call refused by r leaves the pattern as it was

@@ -6,7 +6,7 @@ ghost use Rattle.rules.specs.Operators.{step};
 ghost use Rattle.rules.specs.Form.{faces_of};
 ghost use Rattle.rules.specs.Chains.{carry_step};
 ghost use Rattle.rules.specs.Calls.{given, coefficients, carry_call, carried_by};
-ghost use Rattle.rules.specs.Told.{number_told, stopped_number, stopped_place};
+ghost use Rattle.rules.specs.Told.{number_told, stopped_number, stopped_place, Placed};
 ghost use Rattle.rules.specs.Lending.{seen_by};
 ghost use Rattle.rules.specs.Good.{Held};
 ghost use Rattle.engine.specs.Source.{ReadFrom};
@@ -105,7 +105,8 @@ fn carry_through(
 // The chain carried through the operator of which s are the bytes, or a refusal by 1, 2, 4, the bytes' form, 17, the operator's own or 16, in this order,
 // and then nothing is changed.
 pub fn carry(p: View, s: &[u8], d: u8, chain: &[i32], out: &mut [i32]) -> Result<(), Stop>
-    ensures { record { refusal = stopped_number result; place = stopped_place result; out = out.new } ≡ carry_call (seen_by p.entry) s.now d chain.now out.old }
+    ensures does { record { refusal = stopped_number result; place = stopped_place result; out = out.new } ≡ carry_call (seen_by p.entry) s.now d chain.now out.old }
+    ensures placed { Placed result }
 {
     if chain.len() != SIDE || out.len() != SIDE {
         return Err(Stop::Meaning(Refusal::WrongLength));

@@ -2,6 +2,7 @@ pub mod Limits
 pub mod ChainCalls
 pub mod Refused
 pub mod Places
+pub mod OneOutcome
 pub mod Left
 pub mod RoundTrips
 pub mod ChainMap

@@ -1,5 +1,5 @@
 -- How the code's answers, which are Results, are told by the numbers of the calls.
-use Rattle.std.specs.Prelude.{Option, Some, None, Result, Ok, Err, ℕ, ℤ, pos}
+use Rattle.std.specs.Prelude.{Option, Some, None, Result, Ok, Err, ℕ, ◌<◌, ℤ, pos}
 use Rattle.rules.specs.declared.refusals.Refusal.{Refusal}
 use Rattle.rules.specs.declared.refusals.Stop.{Stop}
 use Rattle.rules.specs.Answers.{MeshWritten, EulerNumber}
@@ -52,6 +52,12 @@ stopped_number (Err stop) = stop_number stop
 abbrev pub stopped_place : {A : Type 0} → Result A Stop → ℕ
 stopped_place (Ok x) = no_place
 stopped_place (Err stop) = stop_place stop
+
+-- a fault of the form has a place, so it is told otherwise than a refusal of the same number that has none
+abbrev pub Placed : {A : Type 0} → Result A Stop → Type 0
+Placed (Ok x) = Unit
+Placed (Err (Stop.Form f)) = fault_place f < no_place
+Placed (Err (Stop.Meaning r)) = Unit
 
 -- how many bytes a mesh that was read took, and one that was written
 abbrev pub used_of : Result ℕ Stop → ℕ
