@@ -44,11 +44,10 @@ fn stopped_by<T: Drop>(answer: Result<T, Stop>) -> u8
 
 // The place that such a call answers, the largest number where there is none.
 fn place_of<T: Drop>(answer: Result<T, Stop>) -> u32
-    requires { stopped_place answer < 2 ^ 32 }
-    ensures { result ≡ stopped_place answer }
+    ensures { stopped_place answer < 2 ^ 32 → result ≡ stopped_place answer }
 {
     match answer.err().and_then(Stop::place) {
-        Some(at) => at as u32,
+        Some(at) => u32::try_from(at).unwrap_or(NO_PLACE),
         None => NO_PLACE,
     }
 }

@@ -1,11 +1,14 @@
 -- `mbyasoka::mbyasoka_apply_operator` meets its contract: the place is a number of 32 bits.
 use mathlib.Core.Path.{ap}
 use native.Mathlib.Omega.{arith}
+use borrow.Author.Rules.{rules}
 use Rattle.rules.specs.Answers.{OperatorApplied}
 use Rattle.rules.specs.Calls.{Lent}
 use Rattle.mbyasoka.specs.Places.{pattern_lent}
 use Rattle.mbyasoka.proofs.Places.{apply_small}
 use Rattle.mbyasoka.proofs.mbyasoka_apply_operator.Goals as goal
 
-pub place_of-requires : goal.place_of-requires
-place_of-requires c = let a = c.args in omega (arith, apply_small (pattern_lent a.counts.now a.m1.now a.m2.now a.m3.now) a.s.now, ap (λ (l : Lent OperatorApplied). l.answer.place) c.apply_operator-answer.ensures.does)
+pub returns : goal.returns
+returns c =
+    let a = c.args in
+    rw (c.place_of.ensures (omega (arith, apply_small (pattern_lent a.counts.now a.m1.now a.m2.now a.m3.now) a.s.now, ap (λ (l : Lent OperatorApplied). l.answer.place) c.apply_operator-answer.ensures.does))) (search rules)

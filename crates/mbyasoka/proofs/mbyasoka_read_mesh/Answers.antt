@@ -1,11 +1,14 @@
 -- `mbyasoka::mbyasoka_read_mesh` meets its contract: the place is a number of 32 bits.
 use mathlib.Core.Path.{ap}
 use native.Mathlib.Omega.{arith}
+use borrow.Author.Rules.{rules}
 use Rattle.rules.specs.Answers.{MeshRead}
 use Rattle.rules.specs.Complex.{counts_of, empty, pattern}
 use Rattle.rules.specs.Calls.{Lent}
 use Rattle.mbyasoka.proofs.Places.{read_small}
 use Rattle.mbyasoka.proofs.mbyasoka_read_mesh.Goals as goal
 
-pub place_of-requires : goal.place_of-requires
-place_of-requires c = let a = c.args in omega (arith, read_small a.s.now (pattern (counts_of empty) a.m1.now a.m2.now a.m3.now), ap (λ (l : Lent MeshRead). l.answer.place) c.read_mesh-answer.ensures.does)
+pub returns : goal.returns
+returns c =
+    let a = c.args in
+    rw (c.place_of.ensures (omega (arith, read_small a.s.now (pattern (counts_of empty) a.m1.now a.m2.now a.m3.now), ap (λ (l : Lent MeshRead). l.answer.place) c.read_mesh-answer.ensures.does))) (search rules)
