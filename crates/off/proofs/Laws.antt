@@ -4,3 +4,4 @@ pub mod TextSays
 pub mod OffLaws
 pub mod OffCalls
 pub mod OffCases
+pub mod OneOutcome

@@ -110,7 +110,7 @@ module _ {A : Type 0} where
   refused_back x (Ok y) = refl
   refused_back x (Err r) = rw (ne_eqb (refusal_number r) accepted (not_accepted r), refusal_back r)
 
-  -- so two answers with one value, number and place are one, if each fault has a place; and two that are refused by meaning alone, with one value and number
+  -- so two answers of one value, number and place are one, if each fault has a place; and of what is refused by meaning alone, two of one value and number
   pub same_answer : (x : A) {a b : Result A Stop} → Placed a → Placed b → value_or x a ≡ value_or x b → stopped_number a ≡ stopped_number b →
       stopped_place a ≡ stopped_place b → a ≡ b
   same_answer x {a} {b} P Q v n at = sym (answer_back x a P) ∙ (rw (v, n, at) (answer_back x b Q))
@@ -118,7 +118,7 @@ module _ {A : Type 0} where
   pub same_refused : (x : A) {a b : Result A Refusal} → value_or x a ≡ value_or x b → number_told a ≡ number_told b → a ≡ b
   same_refused x {a} {b} v n = sym (refused_back x a) ∙ (rw (v, n) (refused_back x b))
 
--- of a mesh that is written, and of the Euler number
+-- a mesh that is written, and the Euler number
 written_is : (a : Result ℕ Refusal) → written_told a ≡ record { written = value_or 0 a; refusal = number_told a }
 written_is (Ok n) = refl
 written_is (Err r) = refl
@@ -201,8 +201,9 @@ module _ (s : List ℕ) (p : Pattern) where
   one_run {a} {b} q r d e =
       let far : (l : Lent ScriptRun) → l ≡ run_call p s → Near l.answer.refusal l.answer.place = λ l h. rw h (run_near p s) in
       let same = d ∙ sym e in
-      let ended : a.ended ≡ b.ended = same_answer tt (near_placed a.ended (far _ d)) (near_placed b.ended (far _ e)) refl
-      (ap (λ (l : Lent ScriptRun). l.answer.refusal) same) (ap (λ (l : Lent ScriptRun). l.answer.place) same) in
+      let number = ap (λ (l : Lent ScriptRun). l.answer.refusal) same in
+      let place = ap (λ (l : Lent ScriptRun). l.answer.place) same in
+      let ended : a.ended ≡ b.ended = same_answer tt (near_placed a.ended (far _ d)) (near_placed b.ended (far _ e)) refl number place in
       let ran : a.ran ≡ b.ran = ap (λ (l : Lent ScriptRun). l.answer.ran) same in
       rw (ran, ended) refl
 
