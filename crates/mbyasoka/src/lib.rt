@@ -42,7 +42,7 @@ fn stopped_by<T: Drop>(answer: Result<T, Stop>) -> u8
     }
 }
 
-// The place that such a call answers, the largest number where there is none.
+// The place that such a call answers, the largest number where there is none, or none of 32 bits.
 fn place_of<T: Drop>(answer: Result<T, Stop>) -> u32
     ensures { stopped_place answer < 2 ^ 32 → result ≡ stopped_place answer }
 {

@@ -11,4 +11,6 @@ use Rattle.mbyasoka.proofs.mbyasoka_apply_operator.Goals as goal
 pub returns : goal.returns
 returns c =
     let a = c.args in
-    rw (c.place_of.ensures (omega (arith, apply_small (pattern_lent a.counts.now a.m1.now a.m2.now a.m3.now) a.s.now, ap (λ (l : Lent OperatorApplied). l.answer.place) c.apply_operator-answer.ensures.does))) (search rules)
+    let p = pattern_lent a.counts.now a.m1.now a.m2.now a.m3.now in
+    let place = ap (λ (l : Lent OperatorApplied). l.answer.place) c.apply_operator-answer.ensures.does in
+    rw (c.place_of.ensures (omega (arith, apply_small p a.s.now, place))) (search rules)

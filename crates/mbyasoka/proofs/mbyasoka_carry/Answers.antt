@@ -10,4 +10,6 @@ use Rattle.mbyasoka.proofs.mbyasoka_carry.Goals as goal
 pub returns : goal.returns
 returns c =
     let a = c.args in
-    rw (c.place_of.ensures (omega (arith, carry_small (pattern_lent a.counts.now a.m1.now a.m2.now a.m3.now) a.s.now a.d a.chain.now a.out.now, ap (λ (g : Given). g.place) (rw c.view.ensures at c.carry-answer.ensures.does)))) (search rules)
+    let p = pattern_lent a.counts.now a.m1.now a.m2.now a.m3.now in
+    let place = ap (λ (g : Given). g.place) (rw c.view.ensures at c.carry-answer.ensures.does) in
+    rw (c.place_of.ensures (omega (arith, carry_small p a.s.now a.d a.chain.now a.out.now, place))) (search rules)

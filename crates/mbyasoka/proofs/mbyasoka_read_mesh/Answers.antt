@@ -11,4 +11,6 @@ use Rattle.mbyasoka.proofs.mbyasoka_read_mesh.Goals as goal
 pub returns : goal.returns
 returns c =
     let a = c.args in
-    rw (c.place_of.ensures (omega (arith, read_small a.s.now (pattern (counts_of empty) a.m1.now a.m2.now a.m3.now), ap (λ (l : Lent MeshRead). l.answer.place) c.read_mesh-answer.ensures.does))) (search rules)
+    let p = pattern (counts_of empty) a.m1.now a.m2.now a.m3.now in
+    let place = ap (λ (l : Lent MeshRead). l.answer.place) c.read_mesh-answer.ensures.does in
+    rw (c.place_of.ensures (omega (arith, read_small a.s.now p, place))) (search rules)

@@ -23,6 +23,9 @@ pub returns-then-d-gt3-clause-does : goal.returns-then-d-gt3-clause-does
 returns-then-d-gt3-clause-does c =
     carry_form _ _ _ _ _ c.if-chain-ne-SIDE.false c.if-out-ne-SIDE.false (sym c.in_ok-refusal_of_pattern.ensures) c.if-d-gt3.true
 
+pub returns-then-d-gt3-clause-placed : goal.returns-then-d-gt3-clause-placed
+returns-then-d-gt3-clause-placed c = tt
+
 pub returns-in_err-o-clause-does : goal.returns-in_err-o-clause-does
 returns-in_err-o-clause-does c =
     rw (handed_on c.from_residual-in_err-o.ensures)
