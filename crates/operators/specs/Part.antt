@@ -32,9 +32,13 @@ part_of p v = table 96 (part p v)
 unfoldable pub all_there : Faces → Chain → Bool
 all_there F v = all F.n (λ l. not (is_zero (v (F.number l))))
 
+-- w is all of v
+abbrev pub is_all_of : Chain → Chain → Bool
+is_all_of w v = all 96 (λ i. eq_z (v i) (w i))
+
 -- w has a face, and is not all of v
 unfoldable pub is_true_part : Chain → Chain → Bool
-is_true_part w v = not (all 96 (λ i. is_zero (w i))) && not (all 96 (λ i. eq_z (v i) (w i)))
+is_true_part w v = not (all 96 (λ i. is_zero (w i))) && not (is_all_of w v)
 
 -- what is chosen of a column, where it is a part that can be split off
 unfoldable pub part_taken : (ℕ → Bool) → Chain → Option (List ℤ)

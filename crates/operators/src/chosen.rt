@@ -3,7 +3,7 @@ ghost use Rattle.std.specs.Prelude.{◌≡◌, ◌<◌, Option, length};
 ghost use Rattle.std.specs.List.{All};
 ghost use Rattle.rules.specs.Operators.{listed, all_below, chosen};
 ghost use Rattle.rules.specs.Calls.{coefficients};
-ghost use Rattle.operators.specs.Part.{ListForm, listing, numbers, head, part_of, part_taken, all_there, is_true_part};
+ghost use Rattle.operators.specs.Part.{ListForm, listing, numbers, head, part_of, part_taken, all_there, is_all_of, is_true_part};
 
 use grid::runs::are_zero;
 use maths::SIDE;
@@ -62,12 +62,25 @@ fn listed_there(faces: &[u8], column: &[i8]) -> bool
     faces.iter().all(|i| column[*i as usize] != 0)
 }
 
+// Whether all is taken.
+fn is_whole(column: &[i8], taken: &[i8]) -> bool
+    requires { (length column.now ≡ 96) × (length taken.now ≡ 96) }
+    ensures { result ≡ is_all_of (coefficients taken.now) (coefficients column.now) }
+{
+    let left: u8 = column
+        .iter()
+        .zip(taken)
+        .map(|(x, y)| (*x != *y) as u8)
+        .sum();
+    left == 0
+}
+
 // Whether the part has a face, and leaves one.
 fn is_true_part(column: &[i8], taken: &[i8]) -> bool
     requires { (length column.now ≡ 96) × (length taken.now ≡ 96) }
     ensures { result ≡ is_true_part (coefficients taken.now) (coefficients column.now) }
 {
-    !are_zero(taken) && column != taken
+    !are_zero(taken) && !is_whole(column, taken)
 }
 
 // The chosen part, where it is at least one face, not all, each with a non-zero entry.

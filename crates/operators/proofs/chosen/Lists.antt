@@ -1,24 +1,24 @@
 -- A list of 96 entries and the chain that it holds, and tests of a list's elements.
 use mathlib.Core.Path.{◌≡◌, refl, sym, ap, ◌∙◌, fun_ext}
-use mathlib.Core.Bool.{cond, Bool, ◌&&◌}
+use mathlib.Core.Bool.{cond, Bool, not, ◌&&◌}
 use mathlib.Core.List.{List}
 use Prim.Native.Nat.{ℕ, zero, suc, ◌+◌, ◌*◌, ◌<◌, ◌≤◌}
 use native.Mathlib.Numerals.{add-one}
 use native.Mathlib.Omega.{arith}
+use lib.Dec.{eqb}
+use borrow.Author.Tests.{eq-eqb, ne_eqb}
 use lib.IntN.{ℤ, pos}
 use lib.ListN.{length, get_or, take, get_or-eq_default}
 use Rattle.std.specs.List.{between, list_all, filter, count_by}
-use Rattle.std.specs.Bool.{Decides}
 use Rattle.std.proofs.lemmas.List.{take_all}
 use Rattle.std.proofs.lemmas.List.Edits.{get_or-between, length-between}
 use Rattle.std.proofs.lemmas.List.Folds.{list_all_more}
 use Rattle.std.proofs.lemmas.List.Sums.{sum_by_more, length-filter}
-use Rattle.maths.specs.Tests.{eq_z, all, count}
+use Rattle.maths.specs.Tests.{all, count}
 use Rattle.maths.specs.Tables.{table, column}
 use Rattle.maths.proofs.Cases.{bool_or, lt_or, no_eq}
-use lib.Seq.{ext_get_or}
 use Rattle.maths.proofs.Tables.{get_d_table, entries_in, entries-out}
-use Rattle.maths.proofs.Tests.{all_of, all-at, eq_z-refl, eq_z-true}
+use Rattle.maths.proofs.Tests.{all-at, all-false, count-zero, none_found}
 use Rattle.rules.specs.Complex.{Chain}
 use Rattle.rules.specs.Calls.{coefficients}
 use Rattle.grid.specs.Grid.{Line}
@@ -50,15 +50,6 @@ column_held {m} {cell} l = fun_ext (λ i. lt_or i 96
     (λ h. get_or-eq_default _ (pos 0) {n = i} (omega (arith, length-between m (96 * cell) (96 * cell + 96) (omega (arith, l.size, l.inside))))
     ∙ sym (entries-out m i cell (λ k. absurd (omega arith)))))
 
--- two lists of 96 are the same where their entries are
-pub same_entries : {xs ys : List ℤ} {r : Bool} → length xs ≡ 96 → length ys ≡ 96 → Decides r (xs ≡ ys)
-    → r ≡ all 96 (λ i. eq_z (coefficients xs i) (coefficients ys i))
-same_entries {xs} {ys} {r} a b d =
-    let p : ℕ → Bool = λ i. eq_z (coefficients xs i) (coefficients ys i) in
-    bool_or (all 96 p)
-    (λ e. d.1 (ext_get_or (pos 0) xs ys (a ∙ sym b) (λ i h. eq_z-true (all-at 96 p e i (omega arith)))) ∙ sym e)
-    (λ e. bool_or r (λ t. no_eq (sym e ∙ all_of 96 (λ i h. rw (d.0 t) (eq_z-refl (coefficients ys i))))) (λ t. t ∙ sym e))
-
 -- how many elements pass a test, by their places
 module _ {A : Type 0} (t : A → Bool) (d : A) (xs : List A) where
   count_taken : (i : ℕ) → i ≤ length xs → count_by t (take i xs) ≡ count i (λ k. t (get_or xs k d))
@@ -71,3 +62,11 @@ module _ {A : Type 0} (t : A → Bool) (d : A) (xs : List A) where
 
   pub counted : length (filter t xs) ≡ count (length xs) (λ k. t (get_or xs k d))
   counted = length-filter t xs ∙ ap (count_by t) (sym (take_all (length xs) xs (omega arith))) ∙ count_taken (length xs) (omega arith)
+
+-- none of n is counted exactly where all pass
+pub none_counted : (n : ℕ) (p : ℕ → Bool) → eqb (count n (λ i. not (p i))) 0 ≡ all n p
+none_counted n p =
+    bool_or (all n p)
+    (λ e. eq-eqb _ 0 (count-zero n (λ i l. rw (all-at n p e i l))) ∙ sym e)
+    (λ e. let f = all-false n p e in
+    ne_eqb _ 0 (λ z. no_eq (sym (rw f.2 at (none_found n (λ i. not (p i)) z f.0 f.1)))) ∙ sym e)
