@@ -7,7 +7,7 @@ ghost use Rattle.listing.specs.Lines.{PlaceSmall};
 ghost use Rattle.listing.specs.Pieces.{column_lines, run_text, LinesRoom};
 
 use crate::lines::{line_cell, line_cells, line_euler, line_ran, line_seam};
-use rules::pattern::View;
+use rules::counts::Counts;
 
 // A line for each of the n seams, at a place.
 fn put_seams(out: &mut [u8], at: usize, n: u8, m: &[i8]) -> usize
@@ -22,15 +22,23 @@ fn put_seams(out: &mut [u8], at: usize, n: u8, m: &[i8]) -> usize
 }
 
 // How a script ended, the counts, the Euler number z and the seams.
-pub fn put_run(out: &mut [u8], ran: u16, refusal: u8, place: u32, z: i16, p: View) -> usize
-    requires room { LinesRoom 32 p.m1.now (count_of p.counts 1) out.old 104 }
+pub fn put_run(
+    out: &mut [u8],
+    ran: u16,
+    refusal: u8,
+    place: u32,
+    c: Counts,
+    z: i16,
+    m: &[i8],
+) -> usize
+    requires room { LinesRoom 32 m.now (count_of c 1) out.old 104 }
     requires place_small { PlaceSmall refusal place }
-    ensures { Put out.old 0 (run_text ran refusal place p.entry.counts z p.entry.m1.now) result out.new }
+    ensures { Put out.old 0 (run_text ran refusal place c z m.now) result out.new }
 {
     let mut next = line_ran(out, 0, ran, refusal, place);
-    next = line_cells(out, next, p.counts);
+    next = line_cells(out, next, c);
     next = line_euler(out, next, z);
-    put_seams(out, next, p.counts.n[1], p.m1)
+    put_seams(out, next, c.n[1], m)
 }
 
 // A line for each of the n panels or blocks, as the letter says.

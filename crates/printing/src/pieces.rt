@@ -45,7 +45,7 @@ pub(crate) fn put_head(out: &mut [u8], run: Result<InputRun, Stop>, p: View) -> 
         Ok(InputRun { script, euler }) => {
             let refusal = number_of(script.ended);
             let place = place_of(script.ended);
-            put_run(out, script.ran, refusal, place, euler, p)
+            put_run(out, script.ran, refusal, place, p.counts, euler, p.m1)
         }
     }
 }
